@@ -221,7 +221,7 @@ def in_item(item, k, tags, at, depth):
 def bare(text):
     """A clause without the variables and facts before it that don't speak of the answer."""
     while True:
-        text = re.sub(r"^let [^=]* = .*? in ", "", text.strip())
+        text = re.sub(r"^(?:let [^=]* = .*? in )+", "", text.strip())
         if text.startswith("(") or re.match(r"[A-Z¬]", text) or "→" in text:
             m = re.match(r"(?:\([^()]* : (?:[^()]|\([^()]*\))*\) )+→ |(?:\([^()]* : (?:[^()]|\([^()]*\))*\) )+(?=\()", text)
             if m and not has(m[0], "result"): text = text[m.end():]; continue
@@ -307,6 +307,9 @@ class Call:
             return bool(re.search(rf"Status\.{refusal}\b", text)), frozenset()
         if re.match(r"result ≡ (?!Err|Ok|Some|None|true|false)", body) or body.endswith((" ≡ Some result", " ≡ result")):
             return True, change
+        # an equation with an image of the answer that keeps each refusal tells of each answer
+        if m := re.match(r"(\w+) result ≡ ", body):
+            if any(re.match(r"\w+ \(Err (\w+)\) = Err \1$", flat(i)) for i in defined(m[1], None, self.imports)[1]): return True, change
         if re.search(r"(result ≡ (Some|Ok|true)\b|IsOk result|IsSome result)[^→]*$", body) and body != text and not m:
             if "result ≡ " in body[:9] or body.startswith(("IsOk", "IsSome")): return True, frozenset()
         # an equation of what is left, in which the answer is an argument, holds for each answer

@@ -56,6 +56,12 @@ longest_sign : cut (codes "<==!=>=>") ≡
 unfolding front cut_from
 longest_sign = refl
 
+brackets_of_an_index : cut (codes "a[b[0]]") ≡
+    Ok (at k.Name 0 1 1 ∷ at (k.Mark s.OpenBracket) 1 2 1 ∷ at k.Name 2 3 1 ∷ at (k.Mark s.OpenBracket) 3 4 1 ∷ at (k.Number (pos 0)) 4 5 1
+    ∷ at (k.Mark s.CloseBracket) 5 6 1 ∷ at (k.Mark s.CloseBracket) 6 7 1 ∷ [])
+unfolding front cut_from
+brackets_of_an_index = refl
+
 number_past_its_limit : cut (printing (codes "9223372036854775808")) ≡ Err (fault code.Number 1)
 unfolding front cut_from
 number_past_its_limit = refl

@@ -21,9 +21,9 @@ pub use byte_list::ByteList;
 pub use event::{Cause, Census, Event};
 pub use fault::{Code, Fault, Memory, Stop};
 pub use limits::{
-    BODY_NAMES, BRACKETS, CLASS_FIELDS, CLASS_METHODS, CLASSES, FRAMES, GREATEST_NUMBER,
-    INPUT_BLANKS, INPUT_TOKEN, MOST_STEPS, NAME_BYTES, PARAMETERS, SOURCE_BYTES, STATEMENT_SIGNS,
-    USUAL_STEPS,
+    ARRAY_SIZE, BODY_NAMES, BRACKETS, CLASS_FIELDS, CLASS_METHODS, CLASSES, FRAMES,
+    GREATEST_NUMBER, INPUT_BLANKS, INPUT_TOKEN, MOST_STEPS, NAME_BYTES, PARAMETERS, SOURCE_BYTES,
+    STATEMENT_SIGNS, USUAL_STEPS,
 };
 pub use object::{Label, Place, Seen};
 pub use outcome::{EndNumbers, Ended, Outcome, Trap};

@@ -9,7 +9,7 @@ pub const NAME_BYTES: usize = 64;
 /// The greatest number that a source can write: the greatest `i64`.
 pub const GREATEST_NUMBER: u64 = 9_223_372_036_854_775_807;
 
-/// The most `{` and `(` that are open together: it bounds the depth of all that follows a tree.
+/// The most `{`, `(` and `[` that are open together: it bounds the depth of what follows a tree.
 pub const BRACKETS: usize = 64;
 
 /// The most classes of a program.
@@ -33,6 +33,9 @@ pub const STATEMENT_SIGNS: usize = 512;
 
 /// The most frames, main's included: a call past them traps `depth`.
 pub const FRAMES: usize = 4_096;
+
+/// The most elements of an array: an array made with more traps `size`.
+pub const ARRAY_SIZE: u32 = 65_535;
 
 /// The most blanks in front of an input number.
 pub const INPUT_BLANKS: usize = 4_096;

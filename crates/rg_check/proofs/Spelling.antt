@@ -1,16 +1,17 @@
 -- How many names a reading counts: as many as what was read has.
-use Rattle.std.proofs.Common.{◌≡◌, ℕ, suc, ◌+◌, ◌≤◌, List, length, All, Ok, refl, sym, ap, arith}
+use Rattle.std.proofs.Common.{◌≡◌, ℕ, suc, ◌+◌, ◌≤◌, List, length, All, Option, None, Some, Ok, refl, sym, ap, arith}
 use Rattle.std.proofs.lemmas.Bool.Decides.{nat_tests}
 use Rattle.std.proofs.lemmas.List.Elements.{All-nil, All-cons}
 use Rattle.rg_tree.proofs.Callers.{within-ok}
 use Rattle.rg_base.specs.declared.token.Token.{Token}
 use Rattle.rg_base.specs.declared.limits.TheConstants.{PARAMETERS, BODY_NAMES}
-use Rattle.rg_tree.specs.Tree.{Class}
+use Rattle.rg_tree.specs.Tree.{Path, Expr, Right, stmt, Class}
 use Rattle.rg_tree.specs.declared.counts.Counts.{Counts}
 use Rattle.rg_tree.specs.Counts.{opened, closed, one_method, one_param, one_local, one_sign}
 use Rattle.rg_tree.specs.Forms.{Form, Given}
 use Rattle.rg_tree.specs.Forms as form
-use Rattle.rg_tree.specs.Grammar.{Reads, program_class, program_main, class_row, tmp_class_row, field_row, method_row, no_members, cap_row}
+use Rattle.rg_tree.specs.Grammar.{assigned, Reads, program_class, program_main, class_row, tmp_class_row, members_row, element_row, field_row}
+use Rattle.rg_tree.specs.Grammar.{method_row, no_members, cap_row, at_row, no_at, giving_row, no_giving, size_row, element_of}
 use Rattle.rg_tree.specs.Grammar.{plain_type, ref_type, first_param, no_params, next_param, no_more_params, some_result, no_result, manager_row}
 use Rattle.rg_tree.specs.Grammar.{block_row, no_stmts, more_stmts, let_row, assign_row, call_row, swap_row, if_row, while_row, enter_row, print_row}
 use Rattle.rg_tree.specs.Grammar.{collect_row, return_row, else_row, else_none, path_row, next_field, no_fields, new_row, freeze_row, merge_row}
@@ -40,6 +41,7 @@ pub record ParamsGrow (n : ℕ) (c d : Counts) : Type 0 where
 abbrev pub Grows : (f : Form) → Given f → Counts → Counts → Type 0
 Grows form.Program r c d = FewNames r
 Grows form.Class k c d = All HasFewNames k.members
+Grows form.ClassRest r c d = All HasFewNames r.1
 Grows form.Members ms c d = All HasFewNames ms
 Grows form.Params ps c d = ParamsGrow (length ps) c d
 Grows form.MoreParams ps c d = ParamsGrow (length ps) c d
@@ -128,6 +130,11 @@ method-few s z a b o p r w =
 main-few : {c d e : Counts} {n : ℕ} → c.names ≡ 0 → Still c d → NamesGrow n d e → n ≤ BODY_NAMES
 main-few z a w = let l = w.few (omega (arith, a.names)) in omega (arith, l, a.names, w.names)
 
+-- an assignment has no names
+names-assigned : {c d : Counts} (line : ℕ) (q : Path) (o : Option Expr) (r : Right) → Still c d → NamesGrow (stmt_names (stmt line (assigned q o r))) c d
+names-assigned line q None r a = names-none a
+names-assigned line q (Some e) r a = names-none a
+
 -- what is read has as many names as were counted
 pub grows : {source : List ℕ} {f : Form} {c d : Counts} {ts us : List Token} {a : Given f} → Reads source f c ts a d us → Grows f a c d
 grows (program_class {k = k} {r = r} x y) = record {
@@ -135,8 +142,10 @@ grows (program_class {k = k} {r = r} x y) = record {
   main = (grows y).main;
 }
 grows (program_main e x y) = record { methods = All-nil (λ (m : Class). All HasFewNames m.members); main = main-few refl (grows x) (grows y) }
-grows (class_row e f h i j x l) = grows x
-grows (tmp_class_row e m f h i j x l) = grows x
+grows (class_row e f h x) = grows x
+grows (tmp_class_row e m f h x) = grows x
+grows (members_row e h x f) = grows x
+grows (element_row e h x f i) = All-nil HasFewNames
 grows (field_row e h i x j y) = All-cons HasFewNames _ _ tt (grows y)
 grows (method_row e x f h i j y l m n o) =
     All-cons HasFewNames _ _ (method-few refl refl (grows x) (method-still h) (opened-still j) (grows y) (grows m) (grows n)) (grows o)
@@ -155,17 +164,21 @@ grows (block_row e h x f) = names-shut (names-behind (opened-still h) (grows x))
 grows (no_stmts e) = names-none (record { names = refl; params = refl })
 grows (more_stmts e x y) = names-both (names-behind (record { names = refl; params = refl }) (grows x)) (grows y)
 grows (let_row e f h i x j y l) = names-before (local-grows h) (on (grows x) (grows y))
-grows (assign_row x e y f) = names-none (on (grows x) (grows y))
+grows (assign_row {t = t} {q = q} {o = o} {r = r} x y e z f) = names-assigned t.line q o r (on (grows x) (on (grows y) (grows z)))
 grows (call_row x e) = names-none (grows x)
 grows (swap_row e f h x i) = names-none (grows x)
 grows (if_row e x y z) = names-behind (grows x) (names-both (grows y) (grows z))
 grows (while_row e x y) = names-behind (grows x) (grows y)
-grows (enter_row e x f h i y) = names-behind (grows x) (names-suc (local-grows i) (grows y))
+grows (enter_row e x f h i y z) = names-before (names-behind (grows x) (names-suc (local-grows i) (grows y))) (grows z)
 grows (print_row e x f) = names-none (grows x)
 grows (collect_row e f) = names-none still
 grows (return_row e x f) = names-none (grows x)
 grows (else_row e x) = grows x
 grows (else_none e) = names-none still
+grows (at_row e h x f) = shut (on (opened-still h) (grows x))
+grows (no_at e) = still
+grows (giving_row e f h) = still
+grows (no_giving e) = still
 grows (path_row e x) = grows x
 grows (next_field e f x) = grows x
 grows (no_fields e) = still
@@ -175,9 +188,9 @@ grows (merge_row e f) = still
 grows (input_row e) = still
 grows (result_row x) = grows x
 grows (value_row e x) = grows x
-grows (new_plain e) = still
-grows (new_temporary e f) = still
-grows (new_region e f h x) = grows x
+grows (new_plain e x) = grows x
+grows (new_temporary e f x) = grows x
+grows (new_region e f x h y) = on (grows x) (grows y)
 grows (call_start e x f h y) = on (grows x) (grows y)
 grows (call_base e) = still
 grows (call_further e f x) = grows x
@@ -207,6 +220,8 @@ grows (minus e x) = grows x
 grows (no_minus e x) = grows x
 grows (literal e) = still
 grows (parens e h x f) = shut (on (opened-still h) (grows x))
+grows (size_row e x) = grows x
 grows (path_value x y) = on (grows x) (grows y)
 grows (is_row e f) = still
+grows (element_of e h x f) = shut (on (opened-still h) (grows x))
 grows (no_is e) = still

@@ -23,7 +23,7 @@ pub fn judge_methods(alloc: Global, program: &Program, classes: &Classes) -> Res
         JudgedAs (rules.judge_methods all 0 all) result }
 {
     for class in 0..program.class_count() {
-        let members = program.order(program.class(class).members);
+        let members = program.members_of(program.class(class));
         judge_members(alloc, program, classes, class, members)?;
     }
     Ok(())

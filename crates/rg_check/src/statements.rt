@@ -76,6 +76,7 @@ fn is_return(kind: StmtKind) -> bool
     match kind {
         StmtKind::Let { .. } => false,
         StmtKind::Set { .. } => false,
+        StmtKind::SetAt { .. } => false,
         StmtKind::Call(_) => false,
         StmtKind::Swap { .. } => false,
         StmtKind::If { .. } => false,

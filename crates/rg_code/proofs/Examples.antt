@@ -5,3 +5,4 @@ mod Calls
 mod Windows
 mod Loops
 mod Places
+mod Arrays

@@ -7,10 +7,10 @@ use Rattle.rg_base.specs.declared.ty.Ty.{Ty}
 use Rattle.rg_base.specs.declared.ty.Ty.TheVariants as ty
 use Rattle.rg_tree.specs.declared.rows.BinOp.{BinOp}
 use Rattle.rg_tree.specs.declared.rows.BinOp.TheVariants as op
-use Rattle.rg_tree.specs.Tree.{Name, Variable, Ty as Written, int, bool, ref, Path, Expr, number, boolean, nil, path, is_nil, neg, not, binary}
-use Rattle.rg_tree.specs.Tree.{Call, Right, value, new, new_tmp, new_iso, freeze, merge, read, more, result_of, stmt, StmtKind, declare, assign}
-use Rattle.rg_tree.specs.Tree.{call, swap, branch, while, enter, print, collect, return, Else, no_else, otherwise, Block, empty as none}
-use Rattle.rg_tree.specs.Tree.{then as next, Param, Method, Member, field, method, Class, Tree}
+use Rattle.rg_tree.specs.Tree.{Name, Variable, Ty as Written, int, bool, ref, Path, Expr, number, boolean, nil, path, is_nil, neg, not, binary, size}
+use Rattle.rg_tree.specs.Tree.{element, Call, Right, value, new, new_tmp, new_iso, freeze, merge, read, more, result_of, stmt, StmtKind, declare}
+use Rattle.rg_tree.specs.Tree.{assign, assign_element, call, swap, branch, while, enter, print, collect, return, Else, no_else, otherwise, Block}
+use Rattle.rg_tree.specs.Tree.{empty as none, then as next, Param, Method, Member, field, method, Class, Tree}
 use Rattle.rg_rules.specs.Capabilities.{is_iso}
 use Rattle.rg_rules.specs.Types.{class_number, type_of, fields_of, field_place, field_type, method_named, method_result}
 use Rattle.rg_rules.specs.Environment.{same_variable}
@@ -126,6 +126,10 @@ expr_code classes scope at (boolean b) = i.Bool b ∷ []
 expr_code classes scope at nil = i.Nil ∷ []
 expr_code classes scope at (path p) = path_code classes scope p.base p.fields
 expr_code classes scope at (is_nil p) = path_code classes scope p.base p.fields ++ i.IsNil ∷ []
+expr_code classes scope at (size q) = path_code classes scope q.base q.fields ++ i.Size ∷ []
+expr_code classes scope at (element q e) =
+    let array = path_code classes scope q.base q.fields ++ i.Check ∷ [] in
+    array ++ (expr_code classes scope (at + length array) e ++ i.Bound ∷ i.Element ∷ [])
 expr_code classes scope at (neg a) = expr_code classes scope at a ++ i.Neg ∷ []
 expr_code classes scope at (not a) = expr_code classes scope at a ++ i.Not ∷ []
 expr_code classes scope at (binary o a b) =
@@ -156,6 +160,8 @@ used_slots scope (is_nil p) = []
 used_slots scope (neg a) = used_slots scope a
 used_slots scope (not a) = used_slots scope a
 used_slots scope (binary o a b) = used_slots scope a ++ used_slots scope b
+used_slots scope (size q) = []
+used_slots scope (element q e) = used_slots scope e
 
 -- the slots that expressions use up, in order
 abbrev pub used_by_all : Scope → List Expr → List ℕ
@@ -216,19 +222,26 @@ call_result classes scope c = elim (method_named classes (target_class classes s
 
 -- Right sides
 
+-- `new C`, or the size and then the new array; `array` and `object` make them
+abbrev pub new_code : List Class → Scope → (at : ℕ) → (object array : Op) → Option Expr → List Op
+new_code classes scope at object array None = object ∷ []
+new_code classes scope at object array (Some e) = expr_code classes scope at e ++ array ∷ []
+
 -- a right side, which leaves its value on the stack
 abbrev pub right_code : List Class → Scope → (at : ℕ) → Right → List Op
 right_code classes scope at (value e) = whole_code classes scope at e
-right_code classes scope at (new x) = i.New (class_number classes x) ∷ []
-right_code classes scope at (new_tmp x) = i.NewTmp (class_number classes x) ∷ []
-right_code classes scope at (new_iso x m) = i.NewIso (class_number classes x) m ∷ []
+right_code classes scope at (new x n) = new_code classes scope at (i.New (class_number classes x)) (i.NewArray (class_number classes x)) n
+right_code classes scope at (new_tmp x n) =
+    new_code classes scope at (i.NewTmp (class_number classes x)) (i.NewTmpArray (class_number classes x)) n
+right_code classes scope at (new_iso x n m) =
+    new_code classes scope at (i.NewIso (class_number classes x) m) (i.NewIsoArray (class_number classes x) m) n
 right_code classes scope at (freeze y) = i.Freeze (slot_of scope (Some y)) ∷ []
 right_code classes scope at (merge y) = i.Merge (slot_of scope (Some y)) ∷ []
 right_code classes scope at read = i.Read ∷ []
 right_code classes scope at more = i.More ∷ []
 right_code classes scope at (result_of c) = call_code classes scope at c
 
--- what comes last where a right side makes an object by `new C`
+-- what comes last where a right side makes an object by `new C` or `new C [e]`
 abbrev pub pace_code : Right → List Op
 pace_code r = elim (right_made r) [
   | None ↦ []
@@ -250,11 +263,12 @@ dropped_code (Some t) = if is_iso t then i.Drop ∷ [] else i.Pop ∷ []
 abbrev pub scope_behind : List Class → Scope → StmtKind → Scope
 scope_behind classes scope (declare x t r) = with_slot scope (Some x) (type_of classes t)
 scope_behind classes scope (assign p r) = scope
+scope_behind classes scope (assign_element q e r) = scope
 scope_behind classes scope (call c) = scope
 scope_behind classes scope (swap y p) = scope
 scope_behind classes scope (branch e b other) = scope
 scope_behind classes scope (while e b) = scope
-scope_behind classes scope (enter p z b) = scope
+scope_behind classes scope (enter p z b giving) = scope
 scope_behind classes scope (print e) = scope
 scope_behind classes scope collect = scope
 scope_behind classes scope (return e) = scope
@@ -271,6 +285,13 @@ assign_code classes scope at x (f ∷ fs) r =
     let holder = holder_code classes scope x f fs ++ i.Check ∷ [] in
     holder ++ (right_code classes scope (at + length holder) r ++ i.Put (held_number classes scope x f fs) ∷ pace_code r)
 
+-- `q[e] = r`, behind the mark
+abbrev pub assign_element_code : List Class → Scope → (at : ℕ) → Path → Expr → Right → List Op
+assign_element_code classes scope at q e r =
+    let array = path_code classes scope q.base q.fields ++ i.Check ∷ [] in
+    let index = expr_code classes scope (at + length array) e ++ i.Bound ∷ [] in
+    array ++ (index ++ (right_code classes scope (at + length array + length index) r ++ i.PutElement ∷ pace_code r))
+
 -- `swap y, q.f`, behind the mark
 abbrev pub swap_code : List Class → Scope → Name → Variable → List Name → List Op
 swap_code classes scope y x [] = []
@@ -282,11 +303,22 @@ abbrev pub enter_code : List Class → Scope → Variable → List Name → List
 enter_code classes scope x [] = i.Enter (slot_of scope x) (length scope) ∷ []
 enter_code classes scope x (f ∷ fs) = holder_code classes scope x f fs ++ i.EnterField (held_number classes scope x f fs) (length scope) ∷ []
 
+-- the variables at the end of a block
+abbrev pub scope_at_end : List Class → Scope → Block → Scope
+scope_at_end classes scope none = scope
+scope_at_end classes scope (next (stmt line k) b) = scope_at_end classes (scope_behind classes scope k) b
+
+-- the end of the block of an `enter`, behind the mark: the slots from one on end
+abbrev pub leave_op : Scope → (s : ℕ) → (giving : Option Name) → Op
+leave_op scope s None = i.Leave s
+leave_op scope s (Some w) = i.LeaveGiving (slot_of scope (Some w)) s
+
 abbrev mutual
   -- a statement of a line, from its mark on
   pub kind_code : List Class → Scope → (at : ℕ) → (line : ℕ) → StmtKind → List Op
   kind_code classes scope at line (declare x t r) = i.Mark line ∷ right_code classes scope (at + 1) r ++ i.Store (length scope) ∷ pace_code r
   kind_code classes scope at line (assign p r) = i.Mark line ∷ assign_code classes scope (at + 1) p.base p.fields r
+  kind_code classes scope at line (assign_element q e r) = i.Mark line ∷ assign_element_code classes scope (at + 1) q e r
   kind_code classes scope at line (call c) = i.Mark line ∷ call_code classes scope (at + 1) c ++ dropped_code (call_result classes scope c)
   kind_code classes scope at line (swap y p) = i.Mark line ∷ swap_code classes scope y p.base p.fields
   kind_code classes scope at line (branch e b other) =
@@ -300,10 +332,11 @@ abbrev mutual
       let inside = at + 1 + length test + 1 in
       let block = block_code classes scope inside b in
       i.Mark line ∷ (test ++ i.JumpFalse (inside + length block + 3) ∷ (block ++ i.Mark line ∷ i.End (length scope) ∷ i.Jump at ∷ []))
-  kind_code classes scope at line (enter p z b) =
+  kind_code classes scope at line (enter p z b giving) =
       let front = enter_code classes scope p.base p.fields in
-      i.Mark line ∷ (front ++ (block_code classes (scope_inside classes scope p z) (at + 1 + length front) b
-      ++ i.Mark line ∷ i.Leave (length scope) ∷ []))
+      let inside = scope_inside classes scope p z in
+      i.Mark line ∷ (front ++ (block_code classes inside (at + 1 + length front) b
+      ++ i.Mark line ∷ leave_op (scope_at_end classes inside b) (length scope) giving ∷ []))
   kind_code classes scope at line (print e) = i.Mark line ∷ whole_code classes scope (at + 1) e ++ i.Print ∷ []
   kind_code classes scope at line collect = i.Mark line ∷ i.Collect ∷ []
   kind_code classes scope at line (return e) = i.Mark line ∷ whole_code classes scope (at + 1) e ++ i.Ret ∷ []
@@ -399,6 +432,11 @@ opening_words [] = []
 opening_words (field f ∷ ms) = opening_word f.ty ∷ opening_words ms
 opening_words (method m ∷ ms) = opening_words ms
 
+-- the opening of a class: the words with which its fields start, or the one with which each element does
+abbrev pub opening_of : Option Written → List Member → List Word
+opening_of None ms = opening_words ms
+opening_of (Some t) ms = opening_word t ∷ []
+
 -- the code of a program
 abbrev pub lowered : Tree → Code
 lowered t =
@@ -406,7 +444,7 @@ lowered t =
     let methods = methods_code t.classes (length main) 0 t.classes in
     record {
       ops = main ++ methods.ops;
-      openings = map (λ (c : Class). opening_words c.members) t.classes;
+      openings = map (λ (c : Class). opening_of c.element c.members) t.classes;
       entries = methods.entries;
       main_slots = slots_of 0 main;
     }

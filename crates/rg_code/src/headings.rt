@@ -49,7 +49,7 @@ fn add_class<'a>(
         ≡ with_headings entries.now (map shown all.old.items)
         (texts.member_names c.name c.members)) }
 {
-    for member in program.order(class.members) {
+    for member in program.members_of(class) {
         add_member(program, class.name, *member, entries, all)?;
     }
     Ok(())

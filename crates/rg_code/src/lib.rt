@@ -9,6 +9,7 @@
 
 mod code;
 mod dues;
+mod elements;
 mod headings;
 mod instructions;
 mod op;

@@ -6,7 +6,8 @@
 //!                beneath stay, and so does the stack where no arrow stands
 //!     r          a reference or nil; n a number, b a truth value, a any word
 //!     s, z       slots of the topmost frame
-//!     k, c, m    the numbers of a field in its class, of a class, of a method in the program
+//!     k, c, m    the numbers of a field in its class, of a class, of a method in the program; an
+//!                element has its place as its number
 //!     t, L       an address in the code, a line of the source
 //!     (nil)      traps: here where the reference is nil
 //!
@@ -128,4 +129,22 @@ pub enum Op {
     Drop,
     /// `halt`: the program is done
     Halt,
+    /// `newarr c`: `n -> r`, a new array of the active region, with n elements (size)
+    NewArray { class: u32 },
+    /// `newtmparr c`: `n -> r`, a new temporary of the topmost window, with n elements (size)
+    NewTmpArray { class: u32 },
+    /// `newisoarr c m`: `n -> r`, the bridge of a new closed region, with n elements; its manager
+    /// is m (size)
+    NewIsoArray { class: u32, manager: Manager },
+    /// `size`: `r -> n`, the number of elements of r (nil)
+    Size,
+    /// `bound`: `r n -> r n` (index): where r has no element n
+    Bound,
+    /// `elem`: `r n -> a`, element n of r
+    Element,
+    /// `putelem`: `r n a ->`, a into element n of r
+    PutElement,
+    /// `leaveg w z`: as `leave z`, and then what slot w held where the reference stands that owns
+    /// the region; note 2 (nil)
+    LeaveGiving { given: u32, slot: u32 },
 }

@@ -134,6 +134,22 @@ fn row_of(op: Op) -> Row
         Op::Pop => form(48, b"pop", Operands::Nothing),
         Op::Drop => form(49, b"drop", Operands::Nothing),
         Op::Halt => form(50, b"halt", Operands::Nothing),
+        Op::NewArray { class } => form(51, b"newarr", Operands::One(Operand::Class(class))),
+        Op::NewTmpArray { class } => form(52, b"newtmparr", Operands::One(Operand::Class(class))),
+        Op::NewIsoArray { class, manager } => form(
+            53,
+            b"newisoarr",
+            Operands::Two(Operand::Class(class), Operand::Manager(manager)),
+        ),
+        Op::Size => form(54, b"size", Operands::Nothing),
+        Op::Bound => form(55, b"bound", Operands::Nothing),
+        Op::Element => form(56, b"elem", Operands::Nothing),
+        Op::PutElement => form(57, b"putelem", Operands::Nothing),
+        Op::LeaveGiving { given, slot } => form(
+            58,
+            b"leaveg",
+            Operands::Two(Operand::Slot(given), Operand::Slot(slot)),
+        ),
     }
 }
 

@@ -5,7 +5,7 @@ use rg_io::{MemFiles, StdFiles, take_all};
 use std::rt::Files;
 
 /// The programs, each with the file of its input, which may have none, and that of its output.
-pub const PROGRAMS: [(&str, Option<&str>, &str); 14] = [
+pub const PROGRAMS: [(&str, Option<&str>, &str); 18] = [
     ("seven.rg", None, "seven.out"),
     ("first.rg", None, "first.out"),
     ("sums.rg", None, "sums.out"),
@@ -17,7 +17,11 @@ pub const PROGRAMS: [(&str, Option<&str>, &str); 14] = [
     ("frozen.rg", None, "frozen.out"),
     ("merged.rg", None, "merged.out"),
     ("cursor.rg", None, "cursor.out"),
+    ("sieve.rg", None, "sieve.out"),
+    ("queue.rg", None, "queue.out"),
     ("bank.rg", Some("bank.in"), "bank.out"),
+    ("stack.rg", Some("stack.in"), "stack.out"),
+    ("heap.rg", Some("heap.in"), "heap.out"),
     ("every_second.rg", None, "every_second.out"),
     ("every_form.rg", Some("every_form.in"), "every_form.out"),
 ];

@@ -8,10 +8,10 @@ use Rattle.rg_base.specs.declared.value.Word.{Word}
 use Rattle.rg_base.specs.declared.value.Word.TheVariants.{Nil, Int, Bool as Truth, Slot}
 use Rattle.rg_cells.specs.declared.cell.Body.{Body}
 use Rattle.rg_cells.specs.Table.{Table, Made, body_at, field_at, label_at, mark_at}
-use Rattle.rg_regions.specs.Table.{Record, RegionTable, record_at, HasNumber, InTable}
+use Rattle.rg_regions.specs.Table.{Record, RegionTable, record_at, InTable}
 use Rattle.rg_regions.specs.Reach.{LiesIn, belongs}
 use Rattle.rg_regions.specs.Grove.{Grove, Members, Parent, referrers, leads_to}
-use Rattle.rg_regions.proofs.Callers.Told.{number_of, record_there, lies_or_not}
+use Rattle.rg_regions.proofs.Callers.Told.{lies_or_not}
 use Rattle.rg_regions.proofs.Callers.Fewer.{total_alike, belongs_not, weight, above_by, parent_by}
 use Rattle.rg_regions.proofs.Callers.RegionComes.{none_leads as none_lead_to}
 use Rattle.rg_regions.proofs.Callers.Beside.{Beside, beside, not_to, leads_on}

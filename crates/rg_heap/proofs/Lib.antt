@@ -4,6 +4,7 @@ mod Kin
 mod Alike
 mod Grows
 mod Comes
+mod Fields
 mod Written
 mod Marked
 mod OwnedChained
@@ -12,4 +13,7 @@ mod Left
 mod Orphaned
 mod Slides
 mod Moved
+mod Holders
+mod Bridged
+mod Gives
 pub mod Callers

@@ -1,6 +1,7 @@
 -- What the readers of the heap answer (docs/architecture.md, "The heap").
 use Rattle.std.proofs.Common.{◌≡◌, ℕ, zero, suc, ◌+◌, ◌-◌, ◌≤◌, List, [], ◌∷◌, ◌++◌, Option, Some, None, IsSome, refl, ap, sym, ◌∙◌, subst, arith}
-use Rattle.std.proofs.Common.{length, option_map}
+use Rattle.std.proofs.Common.{length, option_map, ◌<◌, ◌≢◌, inl, inr}
+use Rattle.std.proofs.lemmas.Bool.{cases_eq}
 use Rattle.std.proofs.Common.{option_and_then, slice_get, take, map, add-one}
 use Rattle.std.proofs.lemmas.Option.{same_Some}
 use Rattle.rg_base.specs.declared.words.Manager.{Manager}
@@ -81,6 +82,31 @@ field_read (Some b) k w e = e
 
 pub serial_held : (h : Heap) (s serial : ℕ) → HasSerial h s serial → IsHeld h s
 serial_held h s serial a = let P : Option Body → Type 0 = λ o. IsSome o in subst P (sym a.1) refl
+
+-- the serial that was read is that of the cell
+pub serial_read : (h : Heap) (s n m : ℕ) → option_map (λ (b : Body). b.serial) (body_at h s) ≡ Some n → HasSerial h s m → n ≡ m
+serial_read h s n m e a = same_Some n a.0.serial (sym e ∙ ap (option_map (λ (b : Body). b.serial)) a.1) ∙ a.2
+
+pub serial_has : (h : Heap) (s n : ℕ) → option_map (λ (b : Body). b.serial) (body_at h s) ≡ Some n → HasSerial h s n
+serial_has h s n e = by_body (body_at h s) refl e
+  where
+    by_body : (b : Option Body) → body_at h s ≡ b → option_map (λ (b : Body). b.serial) b ≡ Some n → HasSerial h s n
+    by_body None i e = cc
+    by_body (Some b) i e = (b, i, same_Some b.serial n e)
+
+-- one cell more has another serial
+pub none_more : (h : Heap) (slots : List ℕ) (i serial n x : ℕ) → slice_get slots i ≡ Some x
+    → option_map (λ (b : Body). b.serial) (body_at h x) ≡ Some n → n ≢ serial
+    → ((j s : ℕ) → j < i → slice_get slots j ≡ Some s → HasSerial h s serial → ⊥)
+    → (j s : ℕ) → j < i + 1 → slice_get slots j ≡ Some s → HasSerial h s serial → ⊥
+none_more h slots i serial n x is read other before j s l e a = elim (cases_eq j i) [
+  | inl q ↦
+      let P : ℕ → Type 0 = λ k. slice_get slots k ≡ Some s in
+      let same : s ≡ x = same_Some s x (sym (subst P q e) ∙ is) in
+      let H : ℕ → Type 0 = λ z. HasSerial h z serial in
+      other (serial_read h x n serial read (subst H same a))
+  | inr d ↦ before j s (omega (arith, l, d)) e a
+]
 
 -- what held cells lead to is held, if it is so of temporaries
 pub all_lead : (c : Table) (t : RegionTable) → Grove c t → ((s n : ℕ) → label_at c.heap s ≡ Some (Temp n) → AllLead c.heap s)

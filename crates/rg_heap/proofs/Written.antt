@@ -1,8 +1,6 @@
 -- A field of a cell is written: the forest stays one (docs/architecture.md, "The heap").
 use Rattle.std.proofs.Common.{◌≡◌, ◌≢◌, ℕ, zero, suc, ◌+◌, false, cond, List, [], ◌∷◌, Option, Some, None, refl, ap, sym, ◌∙◌}
 use Rattle.std.proofs.Common.{subst, ◌⊎◌, inl, inr, option_map, option_and_then, slice_get, count_by, get_or, set, arith}
-use Rattle.std.proofs.lemmas.Bool.{cases_eq}
-use Rattle.std.proofs.lemmas.List.{get_or-set_other}
 use Rattle.std.proofs.lemmas.Option.{same_Some}
 use Rattle.rg_base.specs.declared.object.Label.TheVariants.{Region, Frozen}
 use Rattle.rg_base.specs.declared.value.Word.{Word}
@@ -17,6 +15,7 @@ use Rattle.rg_regions.proofs.Callers.Fewer.{above_both, belongs_not, weight}
 use Rattle.rg_count.proofs.Written.{referrers-written}
 use Rattle.rg_heap.specs.Writes.{Ownerless, Comes, Stays, IsCounting}
 use Rattle.rg_heap.specs.Inner.Marks.{leads_once}
+use Rattle.rg_heap.proofs.Fields.{field_was, label_same, with_is}
 
 -- a word may stand in a field of a region's cell
 abbrev pub MayHold : Heap → RegionTable → (region : ℕ) → Word → Type 0
@@ -33,15 +32,6 @@ pub record Writes (c : Table) (t : RegionTable) (cells : Table) (slot k : ℕ) (
       → mark_at cells s + leads_once s old ≡ mark_at c s + leads_once s w
   pub uncounted : (s : ℕ) → ((r : ℕ) → LiesIn c.heap r slot → IsCounting t r → LiesIn c.heap r s → ⊥) → mark_at cells s ≡ mark_at c s
 
--- lists of words with one written
-set_got : (ws : List Word) (k : ℕ) (w old : Word) (j : ℕ) (x : Word) → slice_get ws k ≡ Some old → slice_get (set ws k w) j ≡ Some x
-    → ((j ≡ k) × (w ≡ x)) ⊎ (slice_get ws j ≡ Some x)
-set_got [] k w old j x e f = cc
-set_got (y ∷ ws) zero w old zero x e f = inl (refl, same_Some w x f)
-set_got (y ∷ ws) zero w old (suc j) x e f = inr f
-set_got (y ∷ ws) (suc k) w old zero x e f = inr f
-set_got (y ∷ ws) (suc k) w old (suc j) x e f = elim (set_got ws k w old j x e f) [ inl a ↦ inl (ap suc a.0, a.1) | inr a ↦ inr a ]
-
 -- a total with one slot written
 pub total-set : (f : Option Body → ℕ) (xs : List (Option (Option Body))) (slot : ℕ) (b d : Body) → body_in (get_or xs slot None) ≡ Some b
     → total f (set xs slot (Some (Some d))) + f (Some b) ≡ total f xs + f (Some d)
@@ -49,36 +39,16 @@ total-set f [] slot b d e = cc
 total-set f (x ∷ xs) zero b d e = let q = ap f e in omega (arith, q)
 total-set f (x ∷ xs) (suc slot) b d e = omega (arith, total-set f xs slot b d e)
 
-pub there-set : (xs : List (Option (Option Body))) (slot : ℕ) (b d : Body) → body_in (get_or xs slot None) ≡ Some b
-    → body_in (get_or (set xs slot (Some (Some d))) slot None) ≡ Some d
-there-set [] slot b d e = cc
-there-set (x ∷ xs) zero b d e = refl
-there-set (x ∷ xs) (suc slot) b d e = there-set xs slot b d e
-
 module _ (c : Table) (t : RegionTable) (cells : Table) (slot k : ℕ) (b : Body) (old w : Word) (g : Grove c t)
     (a : Writes c t cells slot k b old w) where
   abbrev new : Body
   new = record b { fields = set b.fields k w }
 
   heap_is : cells.heap ≡ with_body c.heap slot new
-  heap_is = a.now ∙ by_body (body_at c.heap slot) refl
-    where
-      by_body : (o : Option Body) → body_at c.heap slot ≡ o → with_field c.heap slot k w ≡ with_body c.heap slot new
-      by_body o e = rw (with_field, a.is) refl
-
-  body_new : body_at cells.heap slot ≡ Some new
-  body_new = ap (λ h. body_at h slot) heap_is ∙ there-set c.heap.slots slot b new a.is
-
-  same : (s : ℕ) → s ≢ slot → body_at cells.heap s ≡ body_at c.heap s
-  same s d = ap (λ h. body_at h s) heap_is ∙ ap body_in (get_or-set_other c.heap.slots slot s (Some (Some new)) None d)
+  heap_is = a.now ∙ with_is c.heap slot k b old w a.is a.was
 
   label_on : (s : ℕ) → label_at cells.heap s ≡ label_at c.heap s
-  label_on s = elim (cases_eq s slot) [
-    | inl e ↦
-        let P : ℕ → Type 0 = λ z. label_at cells.heap z ≡ label_at c.heap z in
-        subst P (sym e) (ap (option_map (λ (b : Body). b.label)) body_new ∙ sym (ap (option_map (λ (b : Body). b.label)) a.is))
-    | inr d ↦ ap (option_map (λ (b : Body). b.label)) (same s d)
-  ]
+  label_on s = ap (λ h. label_at h s) a.now ∙ label_same c.heap slot k b old w a.is a.was s
 
   lies_on : (r s : ℕ) → LiesIn c.heap r s → LiesIn cells.heap r s
   lies_on r s l = label_on s ∙ l
@@ -88,18 +58,7 @@ module _ (c : Table) (t : RegionTable) (cells : Table) (slot k : ℕ) (b : Body)
 
   -- a field holds what is written, or what it held
   field_back : (s j : ℕ) (x : Word) → field_at cells.heap s j ≡ Some x → ((s ≡ slot) × (j ≡ k) × (w ≡ x)) ⊎ (field_at c.heap s j ≡ Some x)
-  field_back s j x f = elim (cases_eq s slot) [
-    | inl e ↦
-        let P : ℕ → Type 0 = λ z. field_at cells.heap z j ≡ Some x in
-        let y = sym (ap (option_and_then (λ (b : Body). slice_get b.fields j)) body_new) ∙ subst P e f in
-        elim (set_got b.fields k w old j x a.was y) [
-          | inl q ↦ inl (e, q.0, q.1)
-          | inr q ↦ inr (
-              let P : ℕ → Type 0 = λ z. field_at c.heap z j ≡ Some x in
-              subst P (sym e) (ap (option_and_then (λ (b : Body). slice_get b.fields j)) a.is ∙ q))
-        ]
-    | inr d ↦ inr (sym (ap (option_and_then (λ (b : Body). slice_get b.fields j)) (same s d)) ∙ f)
-  ]
+  field_back s j x f = field_was c.heap slot k b old w a.is a.was s j x (sym (ap (λ h. field_at h s j) a.now) ∙ f)
 
   -- what is written leads to this region, which had no owner
   abbrev Owns : ℕ → ℕ → Type 0

@@ -8,4 +8,5 @@ pub mod Opened
 pub mod Collects
 pub mod Slides
 pub mod Moves
+pub mod Gives
 pub mod Inner

@@ -25,6 +25,7 @@ ghost use Rattle.rg_heap.specs.Answers.{CanRead, Reads, AllLead, Shows, end_numb
 ghost use Rattle.rg_heap.specs.Answers.{LeadsIntoClosed};
 
 mod cargo;
+mod giving;
 
 use crate::answers::{Active, Collected, Refusal};
 use crate::collecting::collect_by;
@@ -367,6 +368,14 @@ impl Heap {
     {
         let key = frames.top().region;
         slide_by(&mut self.cells, &mut self.regions, key, frames, steps)
+    }
+
+    /// The number of fields of a held cell, which for an array is that of its elements.
+    pub fn size(&self, slot: usize) -> u32
+        requires { IsHeld self.now.cells.heap slot }
+        ensures { result ≡ width (body_at self.now.cells.heap slot) }
+    {
+        self.cells.field_count(slot)
     }
 
     /// The serial of a held cell.

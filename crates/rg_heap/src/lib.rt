@@ -6,6 +6,7 @@
 mod answers;
 mod collecting;
 mod ending;
+mod giving;
 mod heap;
 mod making;
 mod reading;

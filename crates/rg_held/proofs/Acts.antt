@@ -3,9 +3,10 @@ pub mod Stack
 pub mod Easy
 pub mod Release
 pub mod Return
-pub mod Leave
 pub mod Make
 pub mod Write
+pub mod Give
+pub mod Leave
 pub mod Object
 pub mod Label
 pub mod Consume

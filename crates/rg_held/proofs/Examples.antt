@@ -75,6 +75,14 @@ leave_frees_temporaries : does (i.Leave 2) []
     (frame (Obj 0 ∷ Obj 1 ∷ Nil ∷ []) ∷ []) (main_window ∷ []))
 leave_frees_temporaries = refl
 
+-- the same, and then what owned region 1 leads to object 4
+leave_giving_frees_temporaries : does (i.LeaveGiving 3 2) []
+    (work (object Nil (label.Region 0) ∷ object Nil (label.Region 1) ∷ object (Obj 3) (label.Temp 1) ∷ object Nil (label.Region 2)
+    ∷ object Nil (label.Region 1) ∷ []) (frame (Obj 0 ∷ Obj 1 ∷ Obj 1 ∷ Obj 4 ∷ []) ∷ []) (inner_window ∷ main_window ∷ []))
+    ≡ Returns 0 [] (work_with manager.Trace manager.Arena (object Nil (label.Region 0) ∷ object Nil (label.Region 1) ∷ gone ∷ gone
+    ∷ object Nil (label.Region 1) ∷ []) (frame (Obj 0 ∷ Obj 4 ∷ Nil ∷ Nil ∷ []) ∷ []) (main_window ∷ []))
+leave_giving_frees_temporaries = refl
+
 ret_frees_the_frame : does i.Ret (Int (pos 5) ∷ []) (work nested (frame (Obj 1 ∷ []) ∷ frame (Obj 0 ∷ []) ∷ []) (main_window ∷ []))
     ≡ Returns 7 (Int (pos 5) ∷ []) (work_with manager.Arena manager.Arena freed (frame (Obj 0 ∷ []) ∷ []) (main_window ∷ []))
 ret_frees_the_frame = refl

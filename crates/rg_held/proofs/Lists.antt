@@ -124,7 +124,7 @@ drop-back (x ∷ xs) (suc n) i u e = let h = drop-back xs n i u e in let a = h.2
 
 -- elements of a list that is turned round, and of two lists behind each other
 
-reverse-cons : {A : Type 0} (x : A) (xs : List A) → reverse (x ∷ xs) ≡ reverse xs ++ x ∷ []
+pub reverse-cons : {A : Type 0} (x : A) (xs : List A) → reverse (x ∷ xs) ≡ reverse xs ++ x ∷ []
 reverse-cons x xs = reverse-append (x ∷ []) xs
 
 pub reverse-back : {A : Type 0} (xs : List A) (i : ℕ) (u : A) → slice_get (reverse xs) i ≡ Some u → (j : ℕ) × (slice_get xs j ≡ Some u)

@@ -14,6 +14,8 @@ pub(crate) fn single(a: u8) -> Option<Sign>
         b'}' => Some(Sign::CloseBrace),
         b'(' => Some(Sign::OpenParen),
         b')' => Some(Sign::CloseParen),
+        b'[' => Some(Sign::OpenBracket),
+        b']' => Some(Sign::CloseBracket),
         b':' => Some(Sign::Colon),
         b';' => Some(Sign::Semicolon),
         b',' => Some(Sign::Comma),

@@ -4,6 +4,7 @@ mod Slot
 mod Class
 mod Target
 mod BlockSteps
+mod BlockTurns
 mod Jumps
 mod BodySteps
 mod WholeSteps

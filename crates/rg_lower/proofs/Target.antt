@@ -1,15 +1,15 @@
 -- The field at the end of a path, by what stands in front of it.
-use Rattle.std.proofs.Common.{◌≡◌, refl, sym, ap, ◌∙◌, ◌+◌, List, [], ◌∷◌, ◌++◌, length, Some, append_assoc}
+use Rattle.std.proofs.Common.{◌≡◌, refl, sym, ap, ◌∙◌, ◌+◌, List, [], ◌∷◌, ◌++◌, length, Some, append_assoc, length-append, arith}
 use Rattle.rg_base.specs.declared.ty.Ty.{Ty}
-use Rattle.rg_tree.specs.Tree.{Name, Variable, Right, Class}
+use Rattle.rg_tree.specs.Tree.{Name, Variable, Path, Expr, Right, Class}
 use Rattle.rg_rules.proofs.Path.{all_but_last-append, last_field-append}
 use Rattle.rg_names.specs.declared.entry.FieldAt.{FieldAt}
 use Rattle.rg_code.specs.declared.op.Op.{Op}
 use Rattle.rg_code.specs.declared.op.Op.TheVariants as i
 use Rattle.rg_code.specs.Code.{Code, with_op}
 use Rattle.rg_code.specs.Lowering.{Scope, type_in, field_number, type_behind, type_along, path_code, holder_code, held_number, right_code}
-use Rattle.rg_code.specs.Lowering.{pace_code, assign_code}
-use Rattle.rg_lower.specs.Inner.Emitted.{with_ops, HolderIs}
+use Rattle.rg_code.specs.Lowering.{expr_code, pace_code, assign_code, assign_element_code}
+use Rattle.rg_lower.specs.Inner.Emitted.{with_ops, index_code, HolderIs}
 use Rattle.rg_lower.proofs.Codes.{with_ops-then, emitted-then}
 
 type_along-append : (classes : List Class) (t : Ty) (fs : List Name) (l : Name) →
@@ -46,3 +46,19 @@ assign-field classes scope x (f ∷ fs) r found old held checked done put new h 
     rw (n, p, d', h.1) (ap (λ (ops : List Op). record old { ops = ops })
     (last-of-three old.ops holder (right_code classes scope (length old.ops + length holder) r)
     (i.Put (held_number classes scope x f fs)) (pace_code r)))
+
+-- `q[e] = r` behind its mark
+pub assign-element : (classes : List Class) (scope : Scope) (q : Path) (e : Expr) (r : Right) (old indexed done put new : Code) →
+    indexed ≡ with_ops old (index_code classes scope (length old.ops) q e) →
+    done ≡ with_ops indexed (right_code classes scope (length indexed.ops) r) → put ≡ with_op done i.PutElement →
+    new ≡ with_ops put (pace_code r) → new ≡ with_ops old (assign_element_code classes scope (length old.ops) q e r)
+assign-element classes scope q e r old indexed done put new x d p n =
+    let array : List Op = path_code classes scope q.base q.fields ++ i.Check ∷ [] in
+    let index : List Op = expr_code classes scope (length old.ops + length array) e ++ i.Bound ∷ [] in
+    let d' = emitted-then old indexed done (array ++ index) (λ at. right_code classes scope at r) x d in
+    let at : length old.ops + length (array ++ index) ≡ length old.ops + length array + length index = omega (arith, length-append array index) in
+    rw (n, p, d', at) (ap (λ (ops : List Op). record old { ops = ops })
+    (four_parts old.ops array index (right_code classes scope (length old.ops + length array + length index) r) i.PutElement (pace_code r)))
+  where
+    four_parts : (o a b r : List Op) (p : Op) (q : List Op) → ((o ++ ((a ++ b) ++ r)) ++ p ∷ []) ++ q ≡ o ++ (a ++ (b ++ (r ++ p ∷ q)))
+    four_parts o a b r p q = simp append_assoc refl

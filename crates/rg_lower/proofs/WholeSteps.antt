@@ -5,7 +5,7 @@ use Rattle.rg_code.specs.declared.op.Op.{Op}
 use Rattle.rg_base.specs.declared.value.Word.{Word}
 use Rattle.rg_base.proofs.Callers.Lists.{drop-get}
 use Rattle.rg_code.specs.Code.{Code, with_opening}
-use Rattle.rg_code.specs.Lowering.{Methods, with_method, method_code, members_code, methods_code, opening_words}
+use Rattle.rg_code.specs.Lowering.{Methods, with_method, method_code, members_code, methods_code, opening_of}
 use Rattle.rg_lower.specs.Inner.Methods.{with_body, with_member, with_methods, with_openings}
 
 with_methods-then : (c : Code) (given : ℕ) (body : List Op) (others : Methods) →
@@ -32,9 +32,9 @@ class-step classes i k c next g n =
 
 -- one more opening
 pub opening-step : (classes : List Class) (i : ℕ) (k : Class) (c next : Code) → slice_get classes i ≡ Some k →
-    next ≡ with_opening c (opening_words k.members) →
+    next ≡ with_opening c (opening_of k.element k.members) →
     with_openings next (drop (i + 1) classes) ≡ with_openings c (drop i classes)
 opening-step classes i k c next g n =
     let s : i + 1 ≡ suc i = omega arith in
     rw (n, s, drop-get classes i k g) (ap (λ (o : List (List Word)). record c { openings = o })
-    (append_assoc c.openings (opening_words k.members ∷ []) _))
+    (append_assoc c.openings (opening_of k.element k.members ∷ []) _))

@@ -2,12 +2,12 @@
 
 ghost use Rattle.std.specs.Prelude.{◌≡◌, ℕ, ◌<◌, ◌++◌, ◌∷◌, [], length, List};
 ghost use Rattle.std.specs.Prelude.{OnOk, IfSome, IfNone};
-ghost use Rattle.rg_tree.specs.Rows.RowTrees.{classes_of, expr_at};
-ghost use Rattle.rg_tree.specs.Rows.RowsExist.{IsExprNumber};
+ghost use Rattle.rg_tree.specs.Rows.RowTrees.{classes_of, expr_at, path_of};
+ghost use Rattle.rg_tree.specs.Rows.RowsExist.{IsExprNumber, IsPathIn};
 ghost use Rattle.rg_code.specs.Lowering.{above, expr_code, gap, operator_code};
 ghost use Rattle.rg_code.specs.declared.op.Op.{Op};
 ghost use Rattle.rg_lower.specs.Inner.Slots.{scope_of, AreHeldIn};
-ghost use Rattle.rg_lower.specs.Inner.Emitted.{with_ops, behind_code};
+ghost use Rattle.rg_lower.specs.Inner.Emitted.{with_ops, behind_code, index_code};
 
 use crate::paths::write_path;
 use crate::slots::Slots;
@@ -15,7 +15,7 @@ use crate::writer::Writer;
 use rg_base::Memory;
 use rg_code::Op;
 use rg_names::Book;
-use rg_tree::{BinOp, ExprRow};
+use rg_tree::{BinOp, ExprRow, Path};
 
 // The instruction of an operator that doesn't jump; None for `and` and `or`.
 fn operator(op: BinOp) -> Option<Op>
@@ -87,7 +87,37 @@ pub fn write_expr(book: &Book, slots: &Slots, e: u32, code: &mut Writer) -> Resu
             write_expr(book, slots, left, code)?;
             write_behind(book, slots, op, right, code)
         }
+        ExprRow::Size(path) => {
+            write_path(book, slots, path, code)?;
+            code.push(Op::Size)
+        }
+        ExprRow::At { path, index } => {
+            write_index(book, slots, path, index, code)?;
+            code.push(Op::Element)
+        }
     }
+}
+
+/// Appends the array of `q[e]` and its index, both tested.
+#[cycle(expression)]
+pub fn write_index(
+    book: &Book,
+    slots: &Slots,
+    path: Path,
+    index: u32,
+    code: &mut Writer,
+) -> Result<(), Memory>
+    requires held { AreHeldIn book.now.program slots.now }
+    requires path { IsPathIn book.now.program path }
+    requires index { IsExprNumber book.now.program index }
+    ensures { OnOk result (let t = book.now.program in code.new ≡ with_ops code.old
+        (index_code (classes_of t) (scope_of t slots.now) (length code.old.ops) (path_of t path)
+        (expr_at t index))) }
+{
+    write_path(book, slots, path, code)?;
+    code.push(Op::Check)?;
+    write_expr(book, slots, index, code)?;
+    code.push(Op::Bound)
 }
 
 // Appends what stands behind the left operand.

@@ -1,14 +1,15 @@
 //! The code of right sides (docs/language.md, "Instructions and lowering").
 
-ghost use Rattle.std.specs.Prelude.{◌≡◌, length, OnOk};
+ghost use Rattle.std.specs.Prelude.{◌≡◌, length, option_map, IfSome, OnOk};
 ghost use Rattle.rg_tree.specs.Rows.Tables.{Tables};
-ghost use Rattle.rg_tree.specs.Rows.RowTrees.{classes_of, right_of};
-ghost use Rattle.rg_tree.specs.Rows.RowsExist.{IsRightIn};
-ghost use Rattle.rg_code.specs.Lowering.{pace_code, right_code};
+ghost use Rattle.rg_tree.specs.Rows.RowTrees.{classes_of, expr_at, right_of};
+ghost use Rattle.rg_tree.specs.Rows.RowsExist.{IsExprNumber, IsRightIn};
+ghost use Rattle.rg_code.specs.Lowering.{above, new_code, pace_code, right_code};
 ghost use Rattle.rg_lower.specs.Inner.Slots.{scope_of, AreHeldIn};
 ghost use Rattle.rg_lower.specs.Inner.Emitted.{with_ops};
 
 use crate::calls::write_call;
+use crate::expressions::write_expr;
 use crate::fields::class_number;
 use crate::slots::Slots;
 use crate::wholes::write_whole;
@@ -33,16 +34,38 @@ pub fn write_right(
 {
     match right {
         Right::Expr(e) => write_whole(book, slots, e, code),
-        Right::New { name } => code.push(Op::New {
-            class: class_number(book, name),
-        }),
-        Right::NewTmp { name } => code.push(Op::NewTmp {
-            class: class_number(book, name),
-        }),
-        Right::NewIso { name, manager } => code.push(Op::NewIso {
-            class: class_number(book, name),
+        Right::New { name, size } => {
+            let class = class_number(book, name);
+            write_new(
+                book,
+                slots,
+                Op::New { class },
+                Op::NewArray { class },
+                size,
+                code,
+            )
+        }
+        Right::NewTmp { name, size } => {
+            let class = class_number(book, name);
+            write_new(
+                book,
+                slots,
+                Op::NewTmp { class },
+                Op::NewTmpArray { class },
+                size,
+                code,
+            )
+        }
+        Right::NewIso {
+            name,
+            size,
             manager,
-        }),
+        } => {
+            let class = class_number(book, name);
+            let object = Op::NewIso { class, manager };
+            let array = Op::NewIsoArray { class, manager };
+            write_new(book, slots, object, array, size, code)
+        }
         Right::Freeze(name) => code.push(Op::Freeze {
             slot: slots.find(book, Some(name)).slot,
         }),
@@ -58,7 +81,33 @@ pub fn write_right(
     }
 }
 
-/// Appends what comes last where a right side makes an object by `new C`.
+// Appends what makes an object, or a size and what makes an array.
+fn write_new(
+    book: &Book,
+    slots: &Slots,
+    object: Op,
+    array: Op,
+    size: Option<u32>,
+    code: &mut Writer,
+) -> Result<(), Memory>
+    requires held { AreHeldIn book.now.program slots.now }
+    requires size { IfSome size (IsExprNumber book.now.program) }
+    requires object { above object ≡ 0 }
+    requires array { above array ≡ 0 }
+    ensures { OnOk result (let t = book.now.program in code.new ≡ with_ops code.old
+        (new_code (classes_of t) (scope_of t slots.now) (length code.old.ops) object array
+        (option_map (expr_at t) size))) }
+{
+    match size {
+        None => code.push(object),
+        Some(e) => {
+            write_expr(book, slots, e, code)?;
+            code.push(array)
+        }
+    }
+}
+
+/// Appends what comes last where a right side makes an object by `new C` or `new C [e]`.
 pub fn write_pace(right: Right, code: &mut Writer) -> Result<(), Memory>
     ensures { OnOk result ((t : Tables)
         → code.new ≡ with_ops code.old (pace_code (right_of t right))) }

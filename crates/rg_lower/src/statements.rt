@@ -1,7 +1,8 @@
 //! The code of statements and blocks (docs/language.md, "Instructions and lowering"). A jump is
 //! written before what it jumps over, and set behind it.
 
-ghost use Rattle.std.specs.Prelude.{◌≡◌, ◌+◌, ◌<◌, ◌≤◌, suc, length, IfOk, IfSome, OnOk};
+ghost use Rattle.std.specs.Prelude.{◌≡◌, ◌+◌, ◌<◌, ◌≤◌, suc, length, option_map, IfOk, IfSome};
+ghost use Rattle.std.specs.Prelude.{OnOk};
 ghost use Rattle.rg_base.specs.declared.limits.TheConstants.{BODY_NAMES};
 ghost use Rattle.rg_tree.specs.Rows.Tables.{name_at};
 ghost use Rattle.rg_tree.specs.Rows.RowTrees.{block_of, classes_of, else_over, expr_at, path_of};
@@ -12,18 +13,18 @@ ghost use Rattle.rg_code.specs.Lowering.{block_code, else_code, else_gap};
 ghost use Rattle.rg_lower.specs.Inner.Slots.{scope_of, AreHeldIn};
 ghost use Rattle.rg_lower.specs.Inner.Emitted.{with_ops};
 ghost use Rattle.rg_lower.specs.Inner.Statements.{branch_code, loop_code, nested_code, stmt_code};
-ghost use Rattle.rg_lower.specs.Inner.Statements.{window_code, IsBehind};
+ghost use Rattle.rg_lower.specs.Inner.Statements.{window_code, IsAtEnd, IsBehind};
 
 use crate::calls::write_alone;
 use crate::slots::Slots;
-use crate::targets::{write_assign, write_let, write_swap};
+use crate::targets::{write_assign, write_assign_element, write_let, write_swap};
 use crate::wholes::{write_test, write_then};
-use crate::windows::write_entry;
+use crate::windows::{Entrance, leaving, write_entry};
 use crate::writer::Writer;
 use rg_base::Memory;
 use rg_code::Op;
 use rg_names::Book;
-use rg_tree::{Path, Span, StmtKind};
+use rg_tree::{Span, StmtKind};
 
 /// A block within a statement, whose line the mark in front of the block's end has.
 #[derive(Clone, Copy)]
@@ -50,6 +51,9 @@ fn write_stmt(book: &Book, slots: &mut Slots, n: u32, code: &mut Writer) -> Resu
     match row.kind {
         StmtKind::Let { name, ty, right } => write_let(book, slots, name, ty, right, code),
         StmtKind::Set { path, right } => write_assign(book, slots, path, right, code),
+        StmtKind::SetAt { path, index, right } => {
+            write_assign_element(book, slots, path, index, right, code)
+        }
         StmtKind::Call(call) => write_alone(book, slots, call, code),
         StmtKind::Swap { name, path } => write_swap(book, slots, name, path, code),
         StmtKind::If { test, yes, no } => {
@@ -60,9 +64,15 @@ fn write_stmt(book: &Book, slots: &mut Slots, n: u32, code: &mut Writer) -> Resu
             let body = Nested { line, span: body };
             write_while(book, slots, head, test, body, code)
         }
-        StmtKind::Enter { path, name, body } => {
+        StmtKind::Enter {
+            path,
+            name,
+            body,
+            giving,
+        } => {
+            let entrance = Entrance { path, name, giving };
             let body = Nested { line, span: body };
-            write_enter(book, slots, path, name, body, code)
+            write_enter(book, slots, entrance, body, code)
         }
         StmtKind::Print(e) => write_then(book, slots, e, Op::Print, code),
         StmtKind::Collect => code.push(Op::Collect),
@@ -166,29 +176,32 @@ fn write_while(
 fn write_enter(
     book: &Book,
     slots: &mut Slots,
-    path: Path,
-    name: u32,
+    entrance: Entrance,
     body: Nested,
     code: &mut Writer,
 ) -> Result<(), Memory>
     requires held { AreHeldIn book.now.program slots.old }
-    requires path { IsPathIn book.now.program path }
-    requires name { IsNameIn book.now.program name }
+    requires path { IsPathIn book.now.program entrance.path }
+    requires name { IsNameIn book.now.program entrance.name }
+    requires giving { IfSome entrance.giving (IsNameIn book.now.program) }
     requires body { IsBlockIn book.now.program body.span }
     requires room { let t = book.now.program in
         length slots.old + suc (block_names (block_of t body.span)) ≤ BODY_NAMES }
     ensures code { OnOk result (let t = book.now.program in code.new ≡ with_ops code.old
         (window_code (classes_of t) (scope_of t slots.old) (length code.old.ops) body.line
-        (path_of t path) (name_at t name) (block_of t body.span))) }
+        (path_of t entrance.path) (name_at t entrance.name) (block_of t body.span)
+        (option_map (name_at t) entrance.giving))) }
     ensures slots { OnOk result (slots.new ≡ slots.old) }
 {
     let first = slots.next();
-    let ty = write_entry(book, slots, path, code)?;
-    slots.push(Some(name), ty)?;
-    write_block(book, slots, body.span, code)?;
+    let ty = write_entry(book, slots, entrance.path, code)?;
+    slots.push(Some(entrance.name), ty)?;
+    write_these(book, slots, body.span, code)?;
+    let leave = leaving(book, slots, first, entrance.giving);
     slots.keep(first);
     code.push(Op::Mark { line: body.line })?;
-    code.push(Op::Leave { slot: first })
+    code.push(leave)?;
+    Ok(())
 }
 
 // Appends the code of a block and of its end.
@@ -231,10 +244,27 @@ pub fn write_block(
     ensures slots { OnOk result (slots.new ≡ slots.old) }
 {
     let first = slots.next();
+    write_these(book, slots, block, code)?;
+    slots.keep(first);
+    Ok(())
+}
+
+// Appends the code of the statements of a block, whose variables are still there.
+#[cycle(statement)]
+fn write_these(book: &Book, slots: &mut Slots, block: Span, code: &mut Writer) -> Result<(), Memory>
+    requires held { AreHeldIn book.now.program slots.old }
+    requires block { IsBlockIn book.now.program block }
+    requires room { let t = book.now.program in
+        length slots.old + block_names (block_of t block) ≤ BODY_NAMES }
+    ensures code { OnOk result (let t = book.now.program in code.new ≡ with_ops code.old
+        (block_code (classes_of t) (scope_of t slots.old) (length code.old.ops)
+        (block_of t block))) }
+    ensures slots { OnOk result (let t = book.now.program in
+        IsAtEnd t slots.old slots.new (block_of t block)) }
+{
     let these = book.order(block);
     for n in these {
         write_stmt(book, slots, *n, code)?;
     }
-    slots.keep(first);
     Ok(())
 }

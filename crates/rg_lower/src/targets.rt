@@ -4,14 +4,17 @@
 ghost use Rattle.std.specs.Prelude.{◌≡◌, ◌<◌, ◌++◌, [], ◌∷◌, length, OnOk, IfSome, Some};
 ghost use Rattle.rg_base.specs.declared.limits.TheConstants.{BODY_NAMES};
 ghost use Rattle.rg_tree.specs.Rows.Tables.{name_at};
-ghost use Rattle.rg_tree.specs.Rows.RowTrees.{classes_of, path_of, right_of, type_of};
-ghost use Rattle.rg_tree.specs.Rows.RowsExist.{IsNameIn, IsPathIn, IsRightIn, IsTypeIn};
+ghost use Rattle.rg_tree.specs.Rows.RowTrees.{classes_of, expr_at, path_of, right_of, type_of};
+ghost use Rattle.rg_tree.specs.Rows.RowsExist.{IsExprNumber, IsNameIn, IsPathIn, IsRightIn};
+ghost use Rattle.rg_tree.specs.Rows.RowsExist.{IsTypeIn};
 ghost use Rattle.rg_rules.specs.Types as types;
-ghost use Rattle.rg_code.specs.Lowering.{assign_code, assign_op, pace_code, right_code, swap_code};
+ghost use Rattle.rg_code.specs.Lowering.{assign_code, assign_element_code, assign_op};
+ghost use Rattle.rg_code.specs.Lowering.{pace_code, right_code, swap_code};
 ghost use Rattle.rg_code.specs.declared.op.Op.TheVariants as i;
 ghost use Rattle.rg_lower.specs.Inner.Slots.{scope_of, variable_of, AreHeldIn};
 ghost use Rattle.rg_lower.specs.Inner.Emitted.{with_ops};
 
+use crate::expressions::write_index;
 use crate::fields::{is_iso, type_of};
 use crate::holders::write_holder;
 use crate::rights::{write_pace, write_right};
@@ -80,6 +83,29 @@ pub fn write_assign(
             write_pace(right, code)
         }
     }
+}
+
+/// Appends the code of `q[e] = r` behind its mark.
+pub fn write_assign_element(
+    book: &Book,
+    slots: &Slots,
+    path: Path,
+    index: u32,
+    right: Right,
+    code: &mut Writer,
+) -> Result<(), Memory>
+    requires held { AreHeldIn book.now.program slots.now }
+    requires path { IsPathIn book.now.program path }
+    requires index { IsExprNumber book.now.program index }
+    requires right { IsRightIn book.now.program right }
+    ensures { OnOk result (let t = book.now.program in code.new ≡ with_ops code.old
+        (assign_element_code (classes_of t) (scope_of t slots.now) (length code.old.ops)
+        (path_of t path) (expr_at t index) (right_of t right))) }
+{
+    write_index(book, slots, path, index, code)?;
+    write_right(book, slots, right, code)?;
+    code.push(Op::PutElement)?;
+    write_pace(right, code)
 }
 
 // Stores into the slot of a variable that is there.

@@ -32,6 +32,8 @@ pub fn clear_used(book: &Book, slots: &Slots, e: u32, code: &mut Writer) -> Resu
             clear_used(book, slots, left, code)?;
             clear_used(book, slots, right, code)
         }
+        ExprRow::Size(_) => Ok(()),
+        ExprRow::At { index, .. } => clear_used(book, slots, index, code),
     }
 }
 

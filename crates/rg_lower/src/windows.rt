@@ -1,11 +1,13 @@
-//! How a window is entered (docs/language.md, "Instructions and lowering").
+//! How a window is entered and left (docs/language.md, "Instructions and lowering").
 
-ghost use Rattle.std.specs.Prelude.{◌≡◌, OnOk, IfOk};
+ghost use Rattle.std.specs.Prelude.{◌≡◌, ◌+◌, ◌<◌, ◌^◌, option_map, OnOk, IfOk, IfSome};
 ghost use Rattle.rg_base.specs.declared.words.Cap.TheVariants as cap;
 ghost use Rattle.rg_base.specs.declared.ty.Ty.TheVariants as ty;
+ghost use Rattle.rg_tree.specs.Rows.Tables.{name_at};
 ghost use Rattle.rg_tree.specs.Rows.RowTrees.{classes_of, path_of};
-ghost use Rattle.rg_tree.specs.Rows.RowsExist.{IsPathIn};
-ghost use Rattle.rg_code.specs.Lowering.{class_of, enter_code, type_along, type_in};
+ghost use Rattle.rg_tree.specs.Rows.RowsExist.{IsNameIn, IsPathIn};
+ghost use Rattle.rg_code.specs.Lowering.{above, class_of, enter_code, leave_op, type_along};
+ghost use Rattle.rg_code.specs.Lowering.{type_in};
 ghost use Rattle.rg_lower.specs.Inner.Slots.{scope_of, AreHeldIn};
 ghost use Rattle.rg_lower.specs.Inner.Emitted.{with_ops};
 
@@ -44,6 +46,32 @@ pub fn write_entry(book: &Book, slots: &Slots, path: Path, code: &mut Writer) ->
             })?;
             Ok(bridge_type(book, found.ty))
         }
+    }
+}
+
+/// What an `enter` says round its block: `q`, the name of the bridge and that of `giving`.
+#[derive(Clone, Copy)]
+pub struct Entrance {
+    pub path: Path,
+    pub name: u32,
+    pub giving: Option<u32>,
+}
+
+/// How the window ends whose bridge has a slot, with the variables at the end of its block.
+pub fn leaving(book: &Book, slots: &Slots, first: u32, giving: Option<u32>) -> Op
+    requires held { AreHeldIn book.now.program slots.now }
+    requires giving { IfSome giving (IsNameIn book.now.program) }
+    requires low { first + 1 < 2 ^ 32 }
+    ensures op { let t = book.now.program in
+        result ≡ leave_op (scope_of t slots.now) first (option_map (name_at t) giving) }
+    ensures low { above result < 2 ^ 32 }
+{
+    match giving {
+        None => Op::Leave { slot: first },
+        Some(name) => Op::LeaveGiving {
+            given: slots.find(book, Some(name)).slot,
+            slot: first,
+        },
     }
 }
 

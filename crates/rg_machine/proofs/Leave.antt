@@ -1,5 +1,5 @@
 -- Windows that are left.
-mod Behind
+pub mod Behind
 pub mod Lists
 mod Effect
 mod Free

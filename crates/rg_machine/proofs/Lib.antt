@@ -1,5 +1,6 @@
 -- The lemmas that the answers of rg_machine use, by what they speak of; Callers is open to crates above.
 mod Number
+mod Indexed
 pub mod Callers
 mod Call
 mod Write
@@ -14,5 +15,6 @@ mod Enter
 mod Release
 mod End
 mod Leave
+mod Giving
 mod Collect
 mod Owned

@@ -1,5 +1,5 @@
 -- Regions that are frozen or merged.
-mod Sole
+pub mod Sole
 mod Behind
 pub mod Given
 pub mod Effect

@@ -4,3 +4,4 @@ pub mod Object
 mod Temporary
 pub mod Cells
 pub mod Refused
+pub mod Array

@@ -13,6 +13,9 @@ abbrev pub making : Op → Truth
 making (i.New c) = true
 making (i.NewTmp c) = true
 making (i.NewIso c m) = true
+making (i.NewArray c) = true
+making (i.NewTmpArray c) = true
+making (i.NewIsoArray c m) = true
 making o = false
 
 -- what is left of the heap by an instruction of a manner that wasn't refused, and makes an object or doesn't: one that works on the stack

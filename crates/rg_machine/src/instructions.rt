@@ -8,7 +8,10 @@ ghost use Rattle.rg_machine.specs.Cores.{core_of};
 
 mod new;
 
-use crate::instructions::new::{new_iso, new_object, new_temp};
+use crate::elements::{bound, element, put_element, size};
+use crate::instructions::new::{
+    new_array, new_iso, new_iso_array, new_object, new_temp, new_temp_array,
+};
 use crate::jumps::{and, jump_false, or};
 use crate::machine::Machine;
 use crate::next::Next;
@@ -100,5 +103,13 @@ pub fn act(p: &mut Machine, code: &CodeList, at: usize, op: Op) -> Next
         Op::Pop => p.pop_top(),
         Op::Drop => p.pop_top(),
         Op::Halt => Next::Stop(at),
+        Op::NewArray { class } => new_array(p, code, class),
+        Op::NewTmpArray { class } => new_temp_array(p, code, class),
+        Op::NewIsoArray { class, manager } => new_iso_array(p, code, class, manager),
+        Op::Size => size(p),
+        Op::Bound => bound(p),
+        Op::Element => element(p),
+        Op::PutElement => put_element(p),
+        Op::LeaveGiving { given, slot } => p.leave_giving(given, slot),
     }
 }

@@ -6,6 +6,7 @@
 //! a state that fits a program is shown (`IsOwned`).
 #![tactic(auto)]
 
+mod elements;
 mod instructions;
 mod jumps;
 mod machine;

@@ -21,10 +21,12 @@ ghost use Rattle.rg_machine.specs.Cores.{core_of};
 ghost use Rattle.rg_machine.specs.Parts.{with_word};
 ghost use Rattle.rg_machine.specs.Stands.{Leads};
 
+mod arrays;
 mod call;
 mod collecting;
 mod ending;
 mod enter;
+mod giving;
 mod moves;
 mod new;
 mod numbers;
@@ -38,7 +40,7 @@ use std::alloc::Global;
 use std::marker::Model;
 
 /// Cells and regions, frames with windows, the words on the stack, the topmost last, the address of
-/// the next step, and what the step has printed.
+/// the next step, what the step has printed, and a buffer for the words of a new array.
 #[derive(Drop)]
 pub struct Machine {
     heap: Heap,
@@ -46,6 +48,7 @@ pub struct Machine {
     stack: Vec<Word>,
     at: usize,
     printed: Option<Val>,
+    equal: Vec<Word>,
 }
 
 impl Model for Machine {
@@ -85,6 +88,7 @@ impl Machine {
             stack: Vec::new(alloc),
             at: 0,
             printed: None,
+            equal: Vec::new(alloc),
         })
     }
 

@@ -61,7 +61,7 @@ def receiver m params result body =
 
 -- `class C { .. }`
 abbrev pub class : String → List Member → Class
-class c members = record { name = codes c; is_tmp = false; members = members; line = 1 }
+class c members = record { name = codes c; is_tmp = false; element = None; members = members; line = 1 }
 
 -- `mut Node`
 abbrev pub to_node : Cap → Ty
@@ -78,7 +78,7 @@ node_class = class "Node" (fields "value" int ∷ fields "next" (to_node cap.Mut
 -- }
 abbrev pub push : Member
 push = def cap.Mut "push" (takes "v" int ∷ []) None (block (
-    lets "n" (to_node cap.Mut) (new (codes "Node"))
+    lets "n" (to_node cap.Mut) (new (codes "Node") None)
     ∷ sets (of "n" ("value" ∷ [])) (path (var "v"))
     ∷ sets (of "n" ("next" ∷ [])) (path own_head)
     ∷ sets own_head (path (var "n"))
@@ -196,8 +196,8 @@ inner_block size a b = block (
 -- }
 abbrev pub main_block : (size a b : ℕ) → Block
 main_block size a b = block (
-    lets "box" (ref cap.Iso (codes "List")) (new_iso (codes "List") manager.Trace)
-    ∷ enter (var "box") (codes "l") (inner_block size a b)
+    lets "box" (ref cap.Iso (codes "List")) (new_iso (codes "List") None manager.Trace)
+    ∷ enter (var "box") (codes "l") (inner_block size a b) None
     ∷ [])
 
 -- the program with these numbers

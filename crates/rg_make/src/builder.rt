@@ -2,7 +2,7 @@
 //! line 1, and answers the row, or the number, that stands for it
 //! (docs/language.md, "The generated program").
 
-ghost use Rattle.std.specs.Prelude.{option_map, IfOk, pos, [], ◌∷◌};
+ghost use Rattle.std.specs.Prelude.{None, option_map, IfOk, pos, [], ◌∷◌};
 ghost use Rattle.rg_tree.specs.Tree as tree;
 ghost use Rattle.rg_tree.specs.Rows.Tables.{name_at};
 ghost use Rattle.rg_tree.specs.Rows.RowTrees.{path_of, type_of, expr_at, expr_of, call_of};
@@ -205,11 +205,15 @@ fn right_row(program: &mut Program, right: Right) -> Result<rg_tree::Right, Memo
         Right::Value(e) => Ok(rg_tree::Right::Expr(add_expr(program, e)?)),
         Right::New { class } => {
             let name = add_name(program, class)?;
-            Ok(rg_tree::Right::New { name })
+            Ok(rg_tree::Right::New { name, size: None })
         }
         Right::NewIso { class, manager } => {
             let name = add_name(program, class)?;
-            Ok(rg_tree::Right::NewIso { name, manager })
+            Ok(rg_tree::Right::NewIso {
+                name,
+                size: None,
+                manager,
+            })
         }
         Right::Call { method } => Ok(rg_tree::Right::Call(call_row(program, method)?)),
     }
@@ -322,11 +326,18 @@ pub fn add_if(program: &mut Program, test: Expr, first: Span, second: Span) -> R
 pub fn add_enter(program: &mut Program, path: Path, name: Name, body: Span) -> Result<u32, Memory>
     requires { IsBlockIn program.old body }
     ensures { IfOk result (λ n. Adds stmt_at IsStmtNumber program.old program.new n
-        (tree.stmt 1 (tree.enter (path_tree path) (name_text name) (block_of program.old body)))) }
+        (tree.stmt 1 (tree.enter (path_tree path) (name_text name) (block_of program.old body)
+        None))) }
 {
     let path = path_row(program, path)?;
     let name = add_name(program, name)?;
-    let number = put_stmt(program, StmtKind::Enter { path, name, body })?;
+    let kind = StmtKind::Enter {
+        path,
+        name,
+        body,
+        giving: None,
+    };
+    let number = put_stmt(program, kind)?;
     Ok(number)
 }
 

@@ -99,6 +99,7 @@ pub fn add_node_class(program: &mut Program) -> Result<(), Memory>
     let _number = program.add_class(ClassRow {
         name,
         is_tmp: false,
+        element: None,
         members,
         line: 1,
     })?;
@@ -250,6 +251,7 @@ pub fn add_list_class(program: &mut Program) -> Result<(), Memory>
     let _number = program.add_class(ClassRow {
         name,
         is_tmp: false,
+        element: None,
         members,
         line: 1,
     })?;

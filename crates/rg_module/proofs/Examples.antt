@@ -8,6 +8,8 @@ use Rattle.rg_code.specs.declared.op.Op.{Op}
 use Rattle.rg_code.specs.declared.op.Op.TheVariants as i
 use Rattle.rg_spell.specs.declared.rows.Shape.{Shape}
 use Rattle.rg_spell.specs.declared.rows.Head.{Head}
+use Rattle.std.specs.List.{flat_map}
+use Rattle.rg_spell.specs.Spelling.{op_bytes}
 use Rattle.rg_module.specs.Parts.{Parts}
 use Rattle.rg_module.specs.Follows.{code_for}
 use Rattle.rg_module.specs.Spelling.{spelling}
@@ -92,3 +94,17 @@ rich_bytes =
 
 rich-spells : spelling rich ≡ rich_bytes
 rich-spells = refl
+
+-- The instructions of arrays, and the one that gives a window's bridge
+
+abbrev array_ops : List Op
+array_ops =
+    i.NewArray 1 ∷ i.NewTmpArray 2 ∷ i.NewIsoArray 3 managers.Count ∷ i.Size ∷ i.Bound ∷ i.Element ∷ i.PutElement ∷ i.LeaveGiving 4 256 ∷ []
+
+array-bytes : flat_map op_bytes array_ops
+    ≡ 51 ∷ 0 ∷ 0 ∷ 0 ∷ 1
+    ∷ 52 ∷ 0 ∷ 0 ∷ 0 ∷ 2
+    ∷ 53 ∷ 0 ∷ 0 ∷ 0 ∷ 3 ∷ 1
+    ∷ 54 ∷ 55 ∷ 56 ∷ 57
+    ∷ 58 ∷ 0 ∷ 0 ∷ 0 ∷ 4 ∷ 0 ∷ 0 ∷ 1 ∷ 0 ∷ []
+array-bytes = refl

@@ -8,10 +8,10 @@ use Rattle.rg_tree.specs.Tree.{Name, Ty as Written, int, bool, ref, Param, Field
 use Rattle.rg_rules.specs.Answers.{test, at_line}
 use Rattle.rg_rules.specs.Types.{class_named, suits_class, good_type, type_of}
 use Rattle.rg_rules.specs.Headers.{among, suits_field_type, suits_receiver, field_header, param_headers, result_header, method_header, member_headers}
-use Rattle.rg_rules.specs.Headers.{class_names, class_members, judge_headers}
+use Rattle.rg_rules.specs.Headers.{is_iso_written, element_header, no_members, rest_header, class_names, class_members, judge_headers}
 use Rattle.rg_rules.proofs.Answers.{bind-ok, then-ok, test-ok, test-then, ok_or-ok, at_line-ok}
-use Rattle.rg_rules.proofs.Header.{member_headers-parts}
-use Rattle.rg_names.specs.Laws.{IsGoodType, IsGoodField, IsGoodMethod, IsGoodMember, IsGoodClass, GoodHeaders, member_name}
+use Rattle.rg_rules.proofs.Header.{member_headers-parts, no_members-none, rest_header-members}
+use Rattle.rg_names.specs.Laws.{IsGoodType, IsGoodField, IsGoodMethod, IsGoodMember, IsGoodElement, IsGoodClass, GoodHeaders, member_name}
 use Rattle.rg_names.proofs.NewNames.{AreNew, AreNew-AreDistinct, AreDistinct-AreNew}
 
 -- a type that passes is good
@@ -122,19 +122,43 @@ members-pass classes c earlier (method m ∷ ms) n a =
     rw (n.0, method-passes classes c m (All-head (IsGoodMember classes c) (method m) ms a))
     (members-pass classes c (m.name ∷ earlier) ms n.1 (All-tail (IsGoodMember classes c) (method m) ms a))
 
-class-IsGood : (classes : List Class) (c : Class) → member_headers classes c [] c.members ≡ Ok tt → IsGoodClass classes c
-class-IsGood classes c h = record {
-  names = AreNew-AreDistinct [] (map member_name c.members) (members-new classes c [] c.members h);
-  members = members-are-good classes c [] c.members h;
-}
+element-IsGood : (classes : List Class) (c : Class) (o : Option Written) → rest_header classes c o ≡ Ok tt → IfSome o (IsGoodElement classes c)
+element-IsGood classes c None h = tt
+element-IsGood classes c (Some t) h =
+    let p = then-ok (at_line c.line (element_header classes c t)) _ tt h in
+    let q = then-ok (good_type classes t) _ tt (at_line-ok c.line (element_header classes c t) tt p.1) in
+    let r = test-then (suits_field_type t c.is_tmp) BadType _ tt q.2 in
+    let n = test-ok (no_members c.members) BadType tt (at_line-ok c.line (test (no_members c.members) BadType) tt p.2) in
+    record {
+      ty = good_type-IsGoodType classes t q.0 q.1;
+      suits = r.0;
+      shared = test-ok (not (is_iso_written t)) BadType tt r.1;
+      alone = no_members-none c.members n;
+    }
 
-class-passes : (classes : List Class) (c : Class) → IsGoodClass classes c → member_headers classes c [] c.members ≡ Ok tt
-class-passes classes c g = members-pass classes c [] c.members (AreDistinct-AreNew (map member_name c.members) g.names) g.members
+element-passes : (classes : List Class) (c : Class) (o : Option Written) → IfSome o (IsGoodElement classes c) →
+    member_headers classes c [] c.members ≡ Ok tt → rest_header classes c o ≡ Ok tt
+element-passes classes c None g h = h
+element-passes classes c (Some t) g h = rw (IsGoodType-good_type classes t g.ty, g.suits, g.shared, g.alone) refl
+
+class-IsGood : (classes : List Class) (c : Class) → rest_header classes c c.element ≡ Ok tt → IsGoodClass classes c
+class-IsGood classes c h =
+    let m = rest_header-members classes c c.element h in
+    record {
+      names = AreNew-AreDistinct [] (map member_name c.members) (members-new classes c [] c.members m);
+      members = members-are-good classes c [] c.members m;
+      element = element-IsGood classes c c.element h;
+    }
+
+class-passes : (classes : List Class) (c : Class) → IsGoodClass classes c → rest_header classes c c.element ≡ Ok tt
+class-passes classes c g =
+    element-passes classes c c.element g.element
+    (members-pass classes c [] c.members (AreDistinct-AreNew (map member_name c.members) g.names) g.members)
 
 classes-are-good : (classes cs : List Class) → class_members classes cs ≡ Ok tt → All (IsGoodClass classes) cs
 classes-are-good classes [] h = All-nil (IsGoodClass classes)
 classes-are-good classes (c ∷ cs) h =
-    let p = then-ok (member_headers classes c [] c.members) _ tt h in
+    let p = then-ok (rest_header classes c c.element) _ tt h in
     All-cons (IsGoodClass classes) c cs (class-IsGood classes c p.1) (classes-are-good classes cs p.2)
 
 classes-pass : (classes cs : List Class) → All (IsGoodClass classes) cs → class_members classes cs ≡ Ok tt

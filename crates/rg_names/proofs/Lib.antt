@@ -9,11 +9,13 @@ mod TypeSteps
 mod SignatureSteps
 mod MemberSteps
 mod EntrySteps
+mod RestSteps
 mod ClassSteps
 mod Places
 mod FoundIn
 mod MembersFound
 mod ClassFound
+mod ElementFound
 mod NewNames
 mod GoodHeaders
 mod TableFacts

@@ -1,11 +1,11 @@
 -- What headers without a fault say of classes and their members (docs/language.md, "Headers"), and that they say nothing less.
-use Rattle.std.specs.Prelude.{◌≡◌, ⊤, IsTrue, List, All, map, IfSome, Some, Ok}
+use Rattle.std.specs.Prelude.{◌≡◌, ⊤, IsTrue, not, List, [], All, map, IfSome, Some, Ok}
 use Rattle.rg_base.specs.declared.words.Cap.{Cap}
 use Rattle.rg_tree.specs.Tree.{Name, Ty as Written, int, bool, ref, Param, Field, Method, Member, field, method, Class}
 use Rattle.rg_tree.specs.Rows.Tables.{Tables, AreDistinct}
 use Rattle.rg_tree.specs.Rows.RowTrees.{program_of}
 use Rattle.rg_rules.specs.Types.{class_named, suits_class}
-use Rattle.rg_rules.specs.Headers.{suits_field_type, suits_receiver, judge_headers}
+use Rattle.rg_rules.specs.Headers.{suits_field_type, is_iso_written, suits_receiver, judge_headers}
 use Rattle.rg_names.specs.Table.{Table}
 use Rattle.rg_names.specs.TableOf.{IsTableOf}
 
@@ -38,15 +38,23 @@ abbrev pub IsGoodMember : List Class → Class → Member → Type 0
 IsGoodMember classes c (field f) = IsGoodField classes c f
 IsGoodMember classes c (method m) = IsGoodMethod classes c m
 
+-- the type of the elements of an array class, which may stand in it and isn't `iso`; the class has no members
+pub record IsGoodElement (classes : List Class) (c : Class) (t : Written) : Type 0 where
+  pub ty : IsGoodType classes t
+  pub suits : IsTrue (suits_field_type t c.is_tmp)
+  pub shared : IsTrue (not (is_iso_written t))
+  pub alone : c.members ≡ []
+
 -- the name of a member
 abbrev pub member_name : Member → Name
 member_name (field f) = f.name
 member_name (method m) = m.name
 
--- a class: no two members have one name, and each is good
+-- a class: no two members have one name, and each is good, or the type of its elements is
 pub record IsGoodClass (classes : List Class) (c : Class) : Type 0 where
   pub names : AreDistinct (map member_name c.members)
   pub members : All (IsGoodMember classes c) c.members
+  pub element : IfSome c.element (IsGoodElement classes c)
 
 -- the classes of a program: no two have one name, and each is good
 pub record GoodHeaders (classes : List Class) : Type 0 where

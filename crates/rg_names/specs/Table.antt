@@ -14,10 +14,12 @@ use Rattle.rg_names.specs.declared.entry.Sig.{Sig}
 use Rattle.rg_names.specs.declared.entry.Entry.{Entry}
 use Rattle.rg_names.specs.declared.entry.Entry.TheVariants.{Field, Method}
 
--- each class's name with whether it is a tmp class, and each class's members by their names
+-- each class's name with whether it is a tmp class, each class's members by their names, and the type of its elements, which only an array
+-- class has
 pub record Table : Type 0 where
   pub heads : List (ℕ × Truth)
   pub members : List (List (ℕ × Entry))
+  pub elements : List (Option Ty)
 
 -- the values without their names
 abbrev pub values_of : {V : Type 0} → List (ℕ × V) → List V
@@ -34,6 +36,10 @@ class_in t name = position (nat_eq name) (keys_of t.heads)
 -- the member of a name in a class
 abbrev pub entry_in : Table → ℕ → ℕ → Option Entry
 entry_in t class name = option_and_then (lookup (nat_eq name)) (slice_get t.members class)
+
+-- the type of the elements of a class
+abbrev pub element_in : Table → ℕ → Option Ty
+element_in t class = option_and_then (λ (o : Option Ty). o) (slice_get t.elements class)
 
 -- a member that is a field
 abbrev pub as_field : Entry → Option FieldAt

@@ -1,6 +1,7 @@
 -- The table of a program (docs/language.md, "Headers").
-use Rattle.std.specs.Prelude.{◌≡◌, ℕ, suc, Bool, List, [], ◌∷◌, map, filter_map, option_map, slice_get, Ok}
+use Rattle.std.specs.Prelude.{◌≡◌, ℕ, suc, Bool, List, [], ◌∷◌, map, filter_map, Option, Some, None, option_map, slice_get, Ok}
 use Rattle.rg_base.specs.declared.ty.Ty.{Ty}
+use Rattle.rg_tree.specs.declared.rows.Span.{Span}
 use Rattle.rg_tree.specs.declared.rows.ClassRow.{ClassRow}
 use Rattle.rg_tree.specs.declared.rows.MemberRow.{MemberRow}
 use Rattle.rg_tree.specs.declared.rows.MemberRow.TheVariants as row
@@ -52,16 +53,27 @@ methods_with_all methods (m ∷ ms) = methods_with_all (methods_with methods m) 
 abbrev pub rows_of : Tables → List ℕ → List MemberRow
 rows_of t ks = filter_map (slice_get t.members) ks
 
+-- the members of a class, of these numbers; an array class has none
+abbrev pub rows_under : Tables → (element : Option TypeRow) → Span → List MemberRow
+rows_under t None s = rows_of t (numbers_in t s)
+rows_under t (Some y) s = []
+
+abbrev pub rows_in : Tables → ClassRow → List MemberRow
+rows_in t c = rows_under t c.element c.members
+
 -- the members of each class in order, behind so many methods
 abbrev pub members_of : Tables → (methods : ℕ) → List ClassRow → List (List (ℕ × Entry))
 members_of t methods [] = []
 members_of t methods (c ∷ cs) =
-    entries_of t 0 methods (rows_of t (numbers_in t c.members))
-    ∷ members_of t (methods_with_all methods (rows_of t (numbers_in t c.members))) cs
+    entries_of t 0 methods (rows_in t c) ∷ members_of t (methods_with_all methods (rows_in t c)) cs
+
+-- the type of the elements of a class
+abbrev pub element_of : Tables → ClassRow → Option Ty
+element_of t c = option_map (ty_of t) c.element
 
 -- the table of a program
 abbrev pub table_of : Tables → Table
-table_of t = record { heads = heads_of t; members = members_of t 0 t.classes }
+table_of t = record { heads = heads_of t; members = members_of t 0 t.classes; elements = map (element_of t) t.classes }
 
 -- the program's headers have no fault, and this is its table
 pub record IsTableOf (program : Tables) (table : Table) : Type 0 where

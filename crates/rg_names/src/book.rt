@@ -1,7 +1,8 @@
 //! A program with its class table: what a step or a judgement looks things up in
 //! (docs/language.md, "Headers").
 
-ghost use Rattle.std.specs.Prelude.{◌≡◌, ◌<◌, bytes_eq, length, slice_get, Some, IfOk, IfSome};
+ghost use Rattle.std.specs.Prelude.{◌≡◌, ◌<◌, All, bytes_eq, length, map, slice_get, Some, IfOk};
+ghost use Rattle.std.specs.Prelude.{IfSome};
 ghost use Rattle.rg_tree.specs.Rows.Tables.{name_at, numbers_in};
 ghost use Rattle.rg_tree.specs.Rows.RowTrees.{class_of, classes_of, expr_at, expr_of, member_at};
 ghost use Rattle.rg_tree.specs.Rows.RowTrees.{member_of, param_at, param_of, stmt_at, stmt_of};
@@ -9,7 +10,7 @@ ghost use Rattle.rg_tree.specs.Rows.RowTrees.{type_of};
 ghost use Rattle.rg_tree.specs.Rows.RowsExist.{IsBlockIn, IsClassIn, IsExprIn, IsMemberIn};
 ghost use Rattle.rg_tree.specs.Rows.RowsExist.{IsNameIn};
 ghost use Rattle.rg_tree.specs.Rows.RowsExist.{IsParamIn, IsStmtIn, IsTypeIn, IsWithin};
-ghost use Rattle.rg_rules.specs.Types.{good_type};
+ghost use Rattle.rg_rules.specs.Types.{element_type, good_type, names_array};
 ghost use Rattle.rg_names.specs.TableOf.{IsTableOf};
 ghost use Rattle.rg_names.specs.TreeAnswers.{class_place, IsKnown, FieldAnswer, MethodAnswer};
 ghost use Rattle.rg_names.specs.TreeAnswers.{HasGoodParams};
@@ -97,6 +98,16 @@ impl<'a> Book<'a> {
         self.program.order(s)
     }
 
+    /// The members of a class, of which an array class has none.
+    pub fn members_of(&self, class: ClassRow) -> &'a [u32]
+        requires { IsClassIn self.now.program class }
+        ensures tree { map (member_at self.now.program) result.now
+            ≡ (class_of self.now.program class).members }
+        ensures below { All (λ k. k < length self.now.program.members) result.now }
+    {
+        self.program.members_of(class)
+    }
+
     /// The statement of a number. The statements within it come before it.
     pub fn stmt(&self, i: u32) -> StmtRow
         requires { i < length self.now.program.stmts }
@@ -168,6 +179,27 @@ impl<'a> Book<'a> {
         ensures known { IfOk result (IsKnown (classes_of self.now.program)) }
     {
         self.classes.ty(row)
+    }
+
+    /// The type of the elements of a class, None exactly for a class that isn't an array class.
+    pub fn element(&self, class: u32) -> Option<Ty>
+        requires { class < length (classes_of self.now.program) }
+        ensures is { result ≡ element_type (classes_of self.now.program) class }
+        ensures known { IfSome result (IsKnown (classes_of self.now.program)) }
+    {
+        self.classes.element(class)
+    }
+
+    /// Whether the class of a name is an array class.
+    pub fn is_array(&self, name: u32) -> bool
+        requires { IsNameIn self.now.program name }
+        ensures { result
+            ≡ names_array (classes_of self.now.program) (name_at self.now.program name) }
+    {
+        match self.class_of(name) {
+            None => false,
+            Some(class) => self.element(class).is_some(),
+        }
     }
 
     /// The field of a name in a class, None exactly where there is none.

@@ -4,15 +4,15 @@ ghost use Rattle.std.specs.Prelude.{◌≡◌, ◌<◌, length, option_map, slic
 ghost use Rattle.rg_tree.specs.Rows.Tables.{Tables, name_at};
 ghost use Rattle.rg_tree.specs.Rows.RowTrees.{type_of, program_of};
 ghost use Rattle.rg_tree.specs.Rows.RowsExist.{IsNameIn, IsTypeIn};
-ghost use Rattle.rg_rules.specs.Types.{good_type};
+ghost use Rattle.rg_rules.specs.Types.{element_type, good_type};
 ghost use Rattle.rg_rules.specs.Headers.{judge_headers};
 ghost use Rattle.rg_names.specs.Table.{values_of, IsClass, class_in, entry_in, field_in, method_in};
-ghost use Rattle.rg_names.specs.Table.{judge_type};
+ghost use Rattle.rg_names.specs.Table.{element_in, judge_type};
 ghost use Rattle.rg_names.specs.TableOf.{IsTableOf};
 ghost use Rattle.rg_names.specs.Judged.{JudgedAs};
 ghost use Rattle.rg_names.specs.TreeAnswers.{class_place, IsKnown, FieldAnswer, MethodAnswer};
 
-use crate::build::{heads, members};
+use crate::build::{all_rests, heads};
 use crate::by_name::ByName;
 use crate::entry::{Entry, FieldAt, Sig};
 use crate::headers::type_named;
@@ -27,6 +27,7 @@ use std::marker::Model;
 pub struct Classes {
     heads: ByName<bool>,
     members: Vec<ByName<Entry>>,
+    elements: Vec<Option<Ty>>,
 }
 
 impl Model for Classes {
@@ -35,9 +36,14 @@ impl Model for Classes {
 
     ghost Value = { Table };
 
-    ghost view = { λ c. record { heads = c.heads; members = c.members.items } };
+    ghost view = { λ c. record {
+      heads = c.heads;
+      members = c.members.items;
+      elements = c.elements.items;
+    } };
 
-    ghost invariant = { λ c. length c.members.items ≡ length c.heads };
+    ghost invariant = { λ c. (length c.members.items ≡ length c.heads)
+        × (length c.elements.items ≡ length c.heads) };
 }
 
 impl Classes {
@@ -47,8 +53,12 @@ impl Classes {
         ensures table { IfOk result (IsTableOf program.now) }
     {
         let heads = heads(alloc, program)?;
-        let members = members(alloc, program, &heads)?;
-        Ok(Classes { heads, members })
+        let rests = all_rests(alloc, program, &heads)?;
+        Ok(Classes {
+            heads,
+            members: rests.members,
+            elements: rests.elements,
+        })
     }
 
     /// The number of the class of a name, None exactly where there is none.
@@ -70,6 +80,27 @@ impl Classes {
             ≡ Some result }
     {
         self.heads.at(class)
+    }
+
+    /// The type of the elements of a class, None exactly for a class that isn't an array class.
+    pub fn element(&self, class: u32) -> Option<Ty>
+        requires { IsClass self.now class }
+        ensures table { result ≡ element_in self.now class }
+        ensures tree { (program : Tables) → IsTableOf program self.now
+            → result ≡ element_type (program_of program).classes class }
+        ensures known { (program : Tables) → IsTableOf program self.now
+            → IfSome result (IsKnown (program_of program).classes) }
+    {
+        self.elements_of(class)
+    }
+
+    // The type of the elements of a class, by the table alone.
+    fn elements_of(&self, class: u32) -> Option<Ty>
+        requires { IsClass self.now class }
+        ensures { result ≡ element_in self.now class }
+    {
+        let elements = &self.elements[class as usize];
+        *elements
     }
 
     /// The field of a name in a class, None exactly where there is none.

@@ -1,20 +1,21 @@
-//! The members of one class, in the order in which they were judged (docs/language.md, "Headers").
+//! What stands behind the name of one class: its members, in the order in which they were judged,
+//! or the type of its elements (docs/language.md, "Headers").
 
-ghost use Rattle.std.specs.Prelude.{◌≡◌, ◌≤◌, suc, [], ◌∷◌, ◌++◌, length, OnOk, IfOk};
+ghost use Rattle.std.specs.Prelude.{◌≡◌, ◌≤◌, suc, [], ◌∷◌, ◌++◌, length, map, OnOk, IfOk};
 ghost use Rattle.rg_tree.specs.declared.rows.MemberRow.TheVariants as member;
-ghost use Rattle.rg_tree.specs.Rows.RowTrees.{member_of, class_of, program_of};
+ghost use Rattle.rg_tree.specs.Rows.RowTrees.{member_at, member_of, class_of, program_of};
 ghost use Rattle.rg_tree.specs.Rows.RowsExist.{IsMemberIn, IsClassIn};
 ghost use Rattle.rg_tree.specs.Rows.Tables.{numbers_in};
-ghost use Rattle.rg_rules.specs.Headers.{member_headers};
+ghost use Rattle.rg_rules.specs.Headers.{member_headers, rest_header};
 ghost use Rattle.rg_names.specs.TableOf.{entry_of, entries_of, fields_with, methods_with};
-ghost use Rattle.rg_names.specs.TableOf.{methods_with_all, rows_of};
+ghost use Rattle.rg_names.specs.TableOf.{methods_with_all, rows_of, rows_in, element_of};
 ghost use Rattle.rg_names.specs.Judged.{JudgedAs};
 ghost use Rattle.rg_names.specs.Inner.Headings.{IsHeadsOf, AreNamed, names_behind, as_member};
 
 use crate::by_name::ByName;
 use crate::entry::{Entry, FieldAt, Sig};
-use crate::headers::{field_type, signature};
-use rg_base::{Cap, Stop};
+use crate::headers::{element_type, field_type, signature};
+use rg_base::{Cap, Stop, Ty};
 use rg_tree::{ClassRow, MemberRow, MethodRow, Program, Span, TypeRow};
 use std::alloc::Global;
 
@@ -169,8 +170,55 @@ fn method_row(
     }
 }
 
+/// What stands behind the name of a class: its members, with the number of all methods so far, or
+/// the type of its elements.
+#[derive(Drop)]
+pub struct Rest {
+    pub element: Option<Ty>,
+    pub entries: ByName<Entry>,
+    pub methods: u32,
+}
+
+/// What stands behind the name of a class, behind so many methods.
+pub fn class_rest(
+    alloc: Global,
+    program: &Program,
+    heads: &ByName<bool>,
+    class: ClassRow,
+    methods: u32,
+) -> Result<Rest, Stop>
+    requires heads { IsHeadsOf program.now heads.now }
+    requires class { IsClassIn program.now class }
+    ensures judged { JudgedAs (rest_header (program_of program.now).classes
+        (class_of program.now class) (class_of program.now class).element) result }
+    ensures element { IfOk result (λ r. r.element ≡ element_of program.now class) }
+    ensures entries { IfOk result
+        (λ r. r.entries ≡ entries_of program.now 0 methods (rows_in program.now class)) }
+    ensures methods { IfOk result
+        (λ r. r.methods ≡ methods_with_all methods (rows_in program.now class)) }
+{
+    match class.element {
+        None => {
+            let found = class_entries(alloc, program, heads, class, methods)?;
+            Ok(Rest {
+                element: None,
+                entries: found.entries,
+                methods: found.methods,
+            })
+        },
+        Some(row) => {
+            let ty = element_type(heads, class.is_tmp, row, class.line)?;
+            Ok(Rest {
+                element: Some(ty),
+                entries: ByName::new(alloc),
+                methods,
+            })
+        },
+    }
+}
+
 /// The members of a class, behind so many methods.
-pub fn class_entries(
+fn class_entries(
     alloc: Global,
     program: &Program,
     heads: &ByName<bool>,
@@ -180,7 +228,8 @@ pub fn class_entries(
     requires heads { IsHeadsOf program.now heads.now }
     requires class { IsClassIn program.now class }
     ensures judged { JudgedAs (member_headers (program_of program.now).classes
-        (class_of program.now class) [] (class_of program.now class).members) result }
+        (class_of program.now class) []
+        (map (member_at program.now) (numbers_in program.now class.members))) result }
     ensures entries { IfOk result (λ f. f.entries ≡ entries_of program.now 0 methods
         (rows_of program.now (numbers_in program.now class.members))) }
     ensures methods { IfOk result (λ f. f.methods ≡ methods_with_all methods

@@ -13,7 +13,7 @@ ghost use Rattle.rg_names.specs.Table.{judge_type};
 ghost use Rattle.rg_names.specs.TableOf.{ty_of};
 ghost use Rattle.rg_names.specs.Judged.{JudgedAs, GivenAs, IsFault};
 ghost use Rattle.rg_names.specs.Inner.Headings.{IsHeadsOf, suits_row, judge_field, judge_result};
-ghost use Rattle.rg_names.specs.Inner.Headings.{signature_header};
+ghost use Rattle.rg_names.specs.Inner.Headings.{judge_element, is_iso_row, signature_header};
 
 use crate::by_name::ByName;
 use crate::suits::{is_field_of, is_receiver_of, names_class};
@@ -65,6 +65,36 @@ pub fn field_type(heads: &ByName<bool>, is_tmp: bool, row: TypeRow, line: u64) -
             code: Code::BadType,
             line,
         }))
+    }
+}
+
+/// The type of the elements of an array class.
+pub fn element_type(heads: &ByName<bool>, is_tmp: bool, row: TypeRow, line: u64) -> Result<Ty, Stop>
+    ensures judged { GivenAs (at_line line (judge_element heads.now is_tmp row)) result }
+    ensures only_fault { IfErr result IsFault }
+{
+    let ty = field_type(heads, is_tmp, row, line)?;
+    if is_owner(row) {
+        Err(Stop::Fault(Fault {
+            code: Code::BadType,
+            line,
+        }))
+    } else {
+        Ok(ty)
+    }
+}
+
+// Whether a type is written `iso`.
+fn is_owner(row: TypeRow) -> bool
+    ensures { result ≡ is_iso_row row }
+{
+    match row {
+        TypeRow::Int => false,
+        TypeRow::Bool => false,
+        TypeRow::Ref { cap, .. } => match cap {
+            Cap::Mut | Cap::Tmp | Cap::Paused | Cap::Imm => false,
+            Cap::Iso => true,
+        },
     }
 }
 

@@ -1,14 +1,14 @@
 -- A step that neither freezes nor merges changes no label, and what it makes is seen behind it.
 use Rattle.std.proofs.Common.{◌≡◌, inl, inr, ℕ, Bool as Truth, true, false, if◌then◌else◌, List, [], ◌∷◌, length, Some}
 use Rattle.std.proofs.Common.{Ok, refl, sym, ap, ◌∙◌, subst, arith}
-use Rattle.rg_tree.specs.Tree.{Name, Right, StmtKind, Tree, Ty as Written, Variable, assign, branch, call, collect}
+use Rattle.rg_tree.specs.Tree.{Expr, Name, Path, Right, StmtKind, Tree, Ty as Written, Variable, assign, assign_element, branch, call, collect}
 use Rattle.rg_tree.specs.Tree.{declare, enter, print, return, stmt, swap, while}
 use Rattle.rg_rules.specs.Acceptance.{Accepted}
-use Rattle.rg_rules.specs.Evaluation.{computed, follow_fields, object_at}
-use Rattle.rg_rules.specs.Items.{Do, Item, LeaveAt}
+use Rattle.rg_rules.specs.Evaluation.{computed, element_place, follow_fields, object_at, path_value, value_of}
+use Rattle.rg_rules.specs.Items.{Do, Item, LeaveAt, LeaveGiving, leave_of}
 use Rattle.rg_rules.specs.Paths.{all_but_last, last_field}
 use Rattle.rg_rules.specs.State.{Assigns, Declares, Drops, Local, State, add_local, locals_of, put_local, top_locals, value_in}
-use Rattle.rg_rules.specs.Steps.{Went, begin_block, begin_else, next, put_field, step_first, step_item, step_kind}
+use Rattle.rg_rules.specs.Steps.{Went, begin_block, begin_else, next, put_element, put_field, step_first, step_item, step_kind, step_leave_giving}
 use Rattle.rg_rules.specs.Types.{type_of}
 use Rattle.rg_rules.proofs.Answers.{at_line-ok, bind-ok, then-ok}
 use Rattle.rg_rules.proofs.Step.{stepped-went}
@@ -20,9 +20,10 @@ use Rattle.rg_sound.proofs.Frames.Named.{first-at}
 use Rattle.rg_sound.proofs.Frames.Top.{top-sees}
 use Rattle.rg_sound.proofs.Owners.Receiver.{receiver-at}
 use Rattle.rg_sound.proofs.Values.Assign.{doing, doing-judges}
-use Rattle.rg_once.proofs.Made.{assign-comes, declare-comes, field-comes, receiver-led}
+use Rattle.rg_once.proofs.Made.{assign-comes, declare-comes, element-comes, field-comes, hosted, receiver-led}
 use Rattle.rg_once.proofs.Moves.{kind_moves, moves, right_moves}
-use Rattle.rg_once.proofs.Quiet.{Same, call-store, computed-store, else-store, enter-store, leave-store, ok-same, put-same, return-store}
+use Rattle.rg_once.proofs.Quiet.{Same, call-store, computed-store, element-same, else-store, enter-store, giving-same, leave-store, ok-same, put-same}
+use Rattle.rg_once.proofs.Quiet.{return-store}
 use Rattle.rg_once.proofs.Quiet.{right-does}
 use Rattle.rg_once.proofs.Quiet.{still, swap-same}
 use Rattle.rg_once.proofs.Seen.{Comes}
@@ -90,9 +91,27 @@ module _ (t : Tree) (accepted : Accepted t) (p q : State) (line : ℕ) (rest : L
         | inl same ↦ quiet-comes p q same
         | inr m ↦
             subst (Comes p) (sym m.is)
-            (field-comes p m.with m.object here.f here.fs m.store m.frames m.windows here.frames t.classes at.0 (last_field f fs) host.0
-            v.address v.field.place v.field.value v.value v.there v.top v.field.place_is v.field.value_is
-            (receiver-led t p x (all_but_last f fs) at.0 v.address here.f here.fs here.frames follows v.value))
+            (field-comes p m.with m.object here.f here.fs m.store m.frames m.windows here.frames host.0 v.address v.field.place v.field.value v.there
+            v.top v.field.value_is (receiver-led t p x (all_but_last f fs) at.0 v.address here.f here.fs here.frames follows v.value)
+            t.classes at.0 (last_field f fs) v.value v.field.place_is)
+      ]
+
+  -- `q[e] = r`
+  element-right : (a : Path) (i : Expr) (r : Right) → right_moves r ≡ false → p.items ≡ Do (stmt line (assign_element a i r)) ∷ rest
+      → step_kind t.classes start line (assign_element a i r) ≡ Ok q → Comes p q
+  element-right a i r quiet items e =
+      let here = doing t accepted p line (assign_element a i r) rest items fit in
+      let at = bind-ok (path_value t.classes p.store (locals_of start) a) _ q e in
+      let host = bind-ok (object_at p.store at.0) _ q at.2 in
+      let index = bind-ok (value_of t.classes p.store (locals_of start) i) _ q host.2 in
+      let place = bind-ok (element_place host.0 index.0) _ q index.2 in
+      let h = hosted t p line a i r rest here at.0 host.0 index.0 place.0 at.1 host.1 place.1 in
+      elim (right-does t.classes start q (put_element at.0 place.0) (element-same at.0 place.0) Drops r quiet place.2) [
+        | inl same ↦ quiet-comes p q same
+        | inr m ↦
+            subst (Comes p) (sym m.is)
+            (element-comes p m.with m.object here.f here.fs m.store m.frames m.windows here.frames host.0 h.address place.0 h.old h.stood h.top
+            h.there h.led at.0 h.value)
       ]
 
   by-store : (u : State) → u ≡ q → u.store ≡ p.store → Comes p q
@@ -107,6 +126,7 @@ module _ (t : Tree) (accepted : Accepted t) (p q : State) (line : ℕ) (rest : L
           → step_kind t.classes start line (assign (record { base = x; fields = fs }) r) ≡ Ok q → Comes p q
       by x [] items e = assign-right x r quiet items e
       by x (f ∷ fs) items e = field-right x f fs r quiet items e
+  kind-comes (assign_element a i r) quiet items e = element-right a i r quiet items e
   kind-comes (call c) quiet items e = by-store q refl (call-store t.classes start q Drops c e)
   kind-comes (swap y a) quiet items e = quiet-comes p q (swap-same t.classes start q (Some y) a.base a.fields e)
   kind-comes (branch a first other) quiet items e =
@@ -124,7 +144,8 @@ module _ (t : Tree) (accepted : Accepted t) (p q : State) (line : ℕ) (rest : L
           (if b then begin_block (record s { items = Do (stmt line (while a body)) ∷ rest }) body else s) ≡ s.store
       by true s = refl
       by false s = refl
-  kind-comes (enter a z body) quiet items e = by-store q refl (enter-store t.classes start q a.base a.fields z body e)
+  kind-comes (enter a z body giving) quiet items e =
+      by-store q refl (enter-store t.classes start q a.base a.fields z body (λ kept. leave_of line kept giving) e)
   kind-comes (print a) quiet items e =
       let d = bind-ok (computed t.classes start a) _ q e in
       by-store _ (ok-same _ q d.2) (computed-store t.classes start a d.0 d.1)
@@ -150,4 +171,7 @@ step-comes t accepted p q fit went quiet = by p.items refl quiet
         kind-comes t accepted p q line rest fit k e is
         (stepped-went line (step_kind t.classes (record p { items = rest }) line k) q (started (Do (stmt line k)) rest is))
     by (LeaveAt k ∷ rest) is e = same _ (started (LeaveAt k) rest is) (leave-store k (record p { items = rest }) p.windows)
+    by (LeaveGiving line k w ∷ rest) is e =
+        quiet-comes p q (giving-same k w (record p { items = rest }) q p.windows
+        (stepped-went line (step_leave_giving k w (record p { items = rest }) p.windows) q (started (LeaveGiving line k w) rest is)))
     by (i ∷ rest) is e = same _ (started i rest is) refl

@@ -26,7 +26,7 @@ use Rattle.rg_rules.specs.Regions.{address, beneath, in_regions, region_at, regi
 use Rattle.rg_rules.specs.Rights.{judge_consumed}
 use Rattle.rg_rules.specs.State.{Frame, Local, State, Window, add_local, place_in, put_local, set_in, top_locals, value_in}
 use Rattle.rg_rules.specs.State.{with_top}
-use Rattle.rg_rules.specs.Steps.{put_field}
+use Rattle.rg_rules.specs.Steps.{put_element, put_field}
 use Rattle.rg_rules.specs.Types.{field_place, fields_of}
 use Rattle.rg_rules.proofs.Local.{set_in-at}
 use Rattle.rg_rules.proofs.Region.{fields-relabelled_object, slice_get-relabelled}
@@ -41,6 +41,7 @@ use Rattle.rg_sound.proofs.Owners.Owner.{get-set, get-set-other}
 use Rattle.rg_sound.proofs.Owners.Receiver.{IsTop}
 use Rattle.rg_sound.proofs.Stores.Beneath.{beneath-above, beneath-start}
 use Rattle.rg_sound.proofs.Stores.Consume.{judge_consumed-parts, keeps-relabelled}
+use Rattle.rg_sound.proofs.Stores.Element.{put_element-is}
 use Rattle.rg_sound.proofs.Stores.Field.{put-field-is, with-field-is}
 use Rattle.rg_sound.proofs.Stores.Freeze.{beneath-shut}
 use Rattle.rg_sound.proofs.Stores.Member.{In, among-in, not-among}
@@ -264,9 +265,8 @@ module _ (t : Tree) (p : State) (f : Frame) (fs : List Frame) (entries : List En
         leads = refl;
       }))
 
-  -- in a field of an object of the topmost window
-  module _ (at : Val) (name : Name) (host : Seen) (b n : ℕ) (x : Val) (is : at ≡ val.Obj b) (stood : slice_get p.store b ≡ Some host)
-      (top : IsTop p.windows host.label) (place : field_place (fields_of t.classes host.class) name ≡ Some n)
+  -- at a place of an object of the topmost window
+  module _ (host : Seen) (b n : ℕ) (x : Val) (stood : slice_get p.store b ≡ Some host) (top : IsTop p.windows host.label)
       (value : slice_get host.fields n ≡ Some x) (led : Led p b) where
     abbrev now : Seen
     now = record host { fields = slice_set host.fields n (val.Obj k.address) }
@@ -279,11 +279,6 @@ module _ (t : Tree) (p : State) (f : Frame) (fs : List Frame) (entries : List En
         ap (λ l. slice_get l b) k.store
         ∙ keeps-relabelled k.regions k.label p.store p.windows
         (λ r open_in. not-among k.regions r (λ i. k.shut r (k.hang r i) open_in)) b host stood top
-
-    q-is : put_field t.classes at name k.after (val.Obj k.address) ≡ q
-    q-is =
-        put-field-is t.classes at name k.after (val.Obj k.address) b host is was
-        ∙ ap (λ v. record k.after { store = slice_set k.after.store b v }) (with-field-is t.classes name (val.Obj k.address) host n place)
 
     host-not : (r : ℕ) → host.label ≡ Region r → Hangs t.classes p.store k.region r → ⊥
     host-not r label hangs = k.shut r hangs (by p.windows top)
@@ -314,8 +309,8 @@ module _ (t : Tree) (p : State) (f : Frame) (fs : List Frame) (entries : List En
           (let v = after-fields a o e in (v.0, get-set-other k.after.store b a now other ∙ v.1, v.2))
     ]
 
-    pub field-shifts : Shifts t.classes p (put_field t.classes at name k.after (val.Obj k.address))
-    field-shifts = subst (Shifts t.classes p) (sym q-is) (shifts-by q k.windows (inr (record {
+    place-shifts : Shifts t.classes p q
+    place-shifts = shifts-by q k.windows (inr (record {
       object = b;
       host = host;
       stood = stood;
@@ -327,4 +322,16 @@ module _ (t : Tree) (p : State) (f : Frame) (fs : List Frame) (entries : List En
       field = n;
       leads = get-set host.fields n (val.Obj k.address) x value;
       led = led;
-    })) (length-set k.after.store b now ∙ after-count) q-labels q-fields)
+    })) (length-set k.after.store b now ∙ after-count) q-labels q-fields
+
+    -- in a field
+    pub field-shifts : (at : Val) (name : Name) → at ≡ val.Obj b → field_place (fields_of t.classes host.class) name ≡ Some n
+        → Shifts t.classes p (put_field t.classes at name k.after (val.Obj k.address))
+    field-shifts at name is place =
+        subst (Shifts t.classes p) (sym (put-field-is t.classes at name k.after (val.Obj k.address) b host is was
+        ∙ ap (λ v. record k.after { store = slice_set k.after.store b v }) (with-field-is t.classes name (val.Obj k.address) host n place)))
+        place-shifts
+
+    -- in an element
+    pub element-shifts : (at : Val) → at ≡ val.Obj b → Shifts t.classes p (put_element at n k.after (val.Obj k.address))
+    element-shifts at is = subst (Shifts t.classes p) (sym (put_element-is at n k.after (val.Obj k.address) b host is was)) place-shifts

@@ -14,17 +14,22 @@ use Rattle.rg_base.specs.declared.value.Val.TheVariants as val
 use Rattle.rg_tree.specs.Tree.{Block, Call, Class, Else, Expr, Method, Name, Right, Variable, freeze, merge, more, new, new_iso, new_tmp, no_else}
 use Rattle.rg_tree.specs.Tree.{otherwise}
 use Rattle.rg_tree.specs.Tree.{read, result_of, value}
-use Rattle.rg_rules.specs.Evaluation.{computed, follow_fields, object_at, path_value, values_of, with_field}
+use Rattle.rg_rules.specs.Answers.{◌>>=◌}
+use Rattle.rg_rules.specs.Evaluation.{computed, follow_fields, object_at, path_value, value_of, values_of, with_element, with_field}
+use Rattle.rg_rules.specs.Items.{Item}
 use Rattle.rg_rules.specs.Regions.{region_of}
-use Rattle.rg_rules.specs.RightSides.{Use, called, made, new_object, step_call, taken, with_region, with_right}
+use Rattle.rg_rules.specs.RightSides.{Use, array_size, called, made_new, new_array, new_object, step_call, taken, with_region, with_right}
 use Rattle.rg_rules.specs.State.{Assigns, Declares, Drops, Frame, State, Target, Window, active, deliver, locals_of, top_number, value_in}
-use Rattle.rg_rules.specs.Steps.{begin_else, entered, put_field, step_enter, step_leave, step_return, step_swap, with_window}
+use Rattle.rg_rules.specs.Steps.{begin_else, entered, put_at, put_element, put_field, step_enter, step_leave, step_leave_giving, step_return}
+use Rattle.rg_rules.specs.Steps.{step_swap, with_window}
 use Rattle.rg_rules.specs.Types.{class_named, field_place, fields_of, method_named}
 use Rattle.rg_rules.specs.Paths.{all_but_last, last_field}
 use Rattle.rg_rules.proofs.Answers.{bind-ok, then-ok}
 use Rattle.rg_rules.proofs.Step.{computed-ok}
 use Rattle.rg_sound.proofs.Owners.Owner.{get-set, get-set-other}
 use Rattle.rg_base.specs.declared.object.Place.{Place}
+use Rattle.rg_base.specs.declared.object.Place.TheVariants.{Var, Field}
+use Rattle.rg_base.specs.declared.outcome.Trap.{Trap}
 use Rattle.rg_once.proofs.Moves.{right_moves}
 
 -- as many objects, with the same labels
@@ -72,6 +77,18 @@ put-same classes (val.Obj a) x s v = by (slice_get s.store a) refl
     by None e = still s.store s.store refl
     by (Some o) e = set-same s.store a o (with_field classes x v o) e (field-label classes x v o)
 
+pub element-same : (at : Val) (k : ℕ) (s : State) (v : Val) → Same s.store (put_element at k s v).store
+element-same val.Nil k s v = still s.store s.store refl
+element-same (val.Int z) k s v = still s.store s.store refl
+element-same (val.Bool b) k s v = still s.store s.store refl
+element-same (val.Obj a) k s v = by (slice_get s.store a) refl
+  where
+    by : (o : Option Seen) → slice_get s.store a ≡ o
+        → Same s.store
+        ((λ (y : State). y.store) (elim o [ None ↦ s | Some o ↦ record s { store = slice_set s.store a (with_element k v o) } ]))
+    by None e = still s.store s.store refl
+    by (Some o) e = set-same s.store a o (with_element k v o) e refl
+
 pub then-same : (xs ys zs : List Seen) → ys ≡ xs → Same ys zs → Same xs zs
 then-same xs ys zs is same = subst (λ l. Same l zs) is same
 
@@ -106,40 +123,56 @@ pub record Makes (s u : State) (put : Use) : Type 0 where
   pub is : u ≡ put with (val.Obj (length s.store))
 
 module _ (classes : List Class) (s u : State) (put : Use) (keeps : (x : State) (v : Val) → Same x.store (put x v).store) where
-  makes-here : (x : Name) (label : Label) → made classes s put x label ≡ u → Same s.store u.store ⊎ Makes s u put
-  makes-here x label e = by (class_named classes x) e
+  -- a new object, or a new array where a size stands; what is done with it may begin with more than the object
+  makes-new : (puts : Use) (opens : State → State) → ((x : State) (v : Val) → puts x v ≡ put (opens x) v)
+      → ((x : State) → (opens x).store ≡ x.store) → ((x : State) → (opens x).frames ≡ x.frames)
+      → ((x : State) → (opens x).windows ≡ x.windows) → (x : Name) (size : Option Expr) (label : Label)
+      → made_new classes s puts x size label ≡ Ok u → Same s.store u.store ⊎ Makes s u put
+  makes-new puts opens is store frames windows x size label = by size
     where
-      by : (o : Option Class) → (elim o [
-        | None ↦ s
-        | Some d ↦ put (record s { store = s.store ++ new_object classes x label ∷ [] }) (val.Obj (length s.store))
-      ]) ≡ u → Same s.store u.store ⊎ Makes s u put
-      by None e = inl (still s.store u.store (ap (λ (x : State). x.store) (sym e)))
-      by (Some c) e = inr (record {
-        object = new_object classes x label;
-        with = record s { store = s.store ++ new_object classes x label ∷ [] };
-        store = refl;
-        frames = refl;
-        windows = refl;
-        is = sym e;
+      here : (n : Seen) → puts (record s { store = s.store ++ n ∷ [] }) (val.Obj (length s.store)) ≡ u → Same s.store u.store ⊎ Makes s u put
+      here n e = inr (record {
+        object = n;
+        with = opens (record s { store = s.store ++ n ∷ [] });
+        store = store (record s { store = s.store ++ n ∷ [] });
+        frames = frames (record s { store = s.store ++ n ∷ [] });
+        windows = windows (record s { store = s.store ++ n ∷ [] });
+        is = sym e ∙ is (record s { store = s.store ++ n ∷ [] }) (val.Obj (length s.store));
       })
 
-  makes-iso : (x : Name) (m : Manager) (label : Label) → made classes s (with_region m put) x label ≡ u
-      → Same s.store u.store ⊎ Makes s u put
-  makes-iso x m label e = by (class_named classes x) e
-    where
-      by : (o : Option Class) → (elim o [
+      none : s ≡ u → Same s.store u.store ⊎ Makes s u put
+      none e = inl (still s.store u.store (ap (λ (x : State). x.store) (sym e)))
+
+      object : (o : Option Class) → (elim o [
         | None ↦ s
-        | Some d ↦ with_region m put (record s { store = s.store ++ new_object classes x label ∷ [] }) (val.Obj (length s.store))
+        | Some c ↦ puts (record s { store = s.store ++ new_object classes x label ∷ [] }) (val.Obj (length s.store))
       ]) ≡ u → Same s.store u.store ⊎ Makes s u put
-      by None e = inl (still s.store u.store (ap (λ (x : State). x.store) (sym e)))
-      by (Some c) e = inr (record {
-        object = new_object classes x label;
-        with = record s { store = s.store ++ new_object classes x label ∷ []; managers = s.managers ++ m ∷ [] };
-        store = refl;
-        frames = refl;
-        windows = refl;
-        is = sym e;
-      })
+      object None e = none e
+      object (Some c) e = here (new_object classes x label) e
+
+      array : (n : Expr) (o : Option Class) → ◌≡◌ {A = Result State Trap} (elim o [
+        | None ↦ Ok s
+        | Some c ↦ do
+          v ← value_of classes s.store (locals_of s) n
+          k ← array_size v
+          Ok (puts (record s { store = s.store ++ new_array classes x c k label ∷ [] }) (val.Obj (length s.store)))
+      ]) (Ok u) → Same s.store u.store ⊎ Makes s u put
+      array n None e = none (ok-same s u e)
+      array n (Some c) e =
+          let v = bind-ok (value_of classes s.store (locals_of s) n) _ u e in
+          let k = bind-ok (array_size v.0) _ u v.2 in
+          here (new_array classes x c k.0 label) (ok-same _ u k.2)
+
+      by : (size : Option Expr) → made_new classes s puts x size label ≡ Ok u → Same s.store u.store ⊎ Makes s u put
+      by None e = object (class_named classes x) (ok-same _ u e)
+      by (Some n) e = array n (class_named classes x) e
+
+  makes-here : (x : Name) (size : Option Expr) (label : Label) → made_new classes s put x size label ≡ Ok u → Same s.store u.store ⊎ Makes s u put
+  makes-here = makes-new put (λ x. x) (λ x v. refl) (λ x. refl) (λ x. refl) (λ x. refl)
+
+  makes-iso : (m : Manager) (x : Name) (size : Option Expr) (label : Label) → made_new classes s (with_region m put) x size label ≡ Ok u
+      → Same s.store u.store ⊎ Makes s u put
+  makes-iso m = makes-new (with_region m put) (λ x. record x { managers = x.managers ++ m ∷ [] }) (λ x v. refl) (λ x. refl) (λ x. refl) (λ x. refl)
 
   taken-same : (n : NextNumber) → taken s put n ≡ Ok u → Same s.store u.store
   taken-same (found z rest) e =
@@ -153,9 +186,9 @@ module _ (classes : List Class) (s u : State) (put : Use) (keeps : (x : State) (
       let c = bind-ok (computed classes s e) _ u h in
       inl (subst (λ (x : State). Same s.store x.store) (ok-same _ u c.2)
       (then-same s.store c.0.0.store _ (computed-store classes s e c.0 c.1) (keeps c.0.0 c.0.1)))
-  right-does target (new x) quiet h = makes-here x (Region (active s.windows)) (ok-same _ u h)
-  right-does target (new_tmp x) quiet h = makes-here x (Temp (top_number s.windows)) (ok-same _ u h)
-  right-does target (new_iso x m) quiet h = makes-iso x m (Region (length s.managers)) (ok-same _ u h)
+  right-does target (new x size) quiet h = makes-here x size (Region (active s.windows)) h
+  right-does target (new_tmp x size) quiet h = makes-here x size (Temp (top_number s.windows)) h
+  right-does target (new_iso x size m) quiet h = makes-iso m x size (Region (length s.managers)) h
   right-does target (freeze y) quiet h = absurd cc
   right-does target (merge y) quiet h = absurd cc
   right-does target read quiet h = inl (taken-same (next_number s.input) h)
@@ -173,21 +206,23 @@ module _ (classes : List Class) (s u : State) where
       subst (λ (x : State). Same s.store x.store) (ok-same _ u o.2)
       (put-same classes at.0 (last_field f fs) s (value_in (locals_of s) y))
 
-  entered-store : (owner : Place) (z : Name) (body : Block) (bridge : Val) → entered s owner z body bridge ≡ Ok u → u.store ≡ s.store
-  entered-store owner z body bridge h =
+  entered-store : (owner : Place) (z : Name) (body : Block) (after : ℕ → Item) (bridge : Val) → entered s owner z body after bridge ≡ Ok u
+      → u.store ≡ s.store
+  entered-store owner z body after bridge h =
       let o = bind-ok (object_at s.store bridge) _ u h in
       sym (ap (λ (x : State). x.store) (ok-same _ u o.2)) ∙ by (region_of o.0.label) o.0.class
     where
-      by : (r : Option ℕ) (class : ℕ) → (with_window s owner z body bridge class r).store ≡ s.store
+      by : (r : Option ℕ) (class : ℕ) → (with_window s owner z body after bridge class r).store ≡ s.store
       by None class = refl
       by (Some r) class = refl
 
-  pub enter-store : (x : Variable) (fs : List Name) (z : Name) (body : Block) → step_enter classes s x fs z body ≡ Ok u → u.store ≡ s.store
-  enter-store x [] z body h = entered-store _ z body _ h
-  enter-store x (f ∷ fs) z body h =
+  pub enter-store : (x : Variable) (fs : List Name) (z : Name) (body : Block) (after : ℕ → Item) → step_enter classes s x fs z body after ≡ Ok u
+      → u.store ≡ s.store
+  enter-store x [] z body after h = entered-store _ z body after _ h
+  enter-store x (f ∷ fs) z body after h =
       let at = bind-ok (follow_fields classes s.store (value_in (locals_of s) x) (all_but_last f fs)) _ u h in
       let o = bind-ok (object_at s.store at.0) _ u at.2 in
-      entered-store _ z body _ o.2
+      entered-store _ z body after _ o.2
 
   deliver-store : (t : Target) (x : State) (v : Val) → (deliver t x v).store ≡ x.store
   deliver-store (Declares n t) x v = refl
@@ -209,3 +244,17 @@ pub leave-store : (k : ℕ) (s : State) (ws : List Window) → (step_leave k s w
 leave-store k s [] = refl
 leave-store k s (w ∷ []) = refl
 leave-store k s (w ∷ v ∷ ws) = refl
+
+-- a place takes a value
+at-same : (place : Option Place) (s : State) (v : Val) → Same s.store (put_at place s v).store
+at-same None s v = still s.store s.store refl
+at-same (Some (Var n i)) s v = still s.store s.store refl
+at-same (Some (Field a k)) s v = element-same (val.Obj a) k s v
+
+pub giving-same : (k : ℕ) (w : Name) (s u : State) (ws : List Window) → step_leave_giving k w s ws ≡ Ok u → Same s.store u.store
+giving-same k w s u [] e = still s.store u.store (ap (λ (x : State). x.store) (sym (ok-same s u e)))
+giving-same k w s u (top ∷ []) e = still s.store u.store (ap (λ (x : State). x.store) (sym (ok-same s u e)))
+giving-same k w s u (top ∷ v ∷ ws) e =
+    let o = then-ok (object_at s.store (value_in (locals_of s) (Some w))) _ u e in
+    subst (λ (x : State). Same s.store x.store) (ok-same _ u o.2)
+    (at-same top.owner (step_leave k s (top ∷ v ∷ ws)) (value_in (locals_of s) (Some w)))

@@ -5,13 +5,15 @@ use Rattle.std.proofs.lemmas.Option.{same_Some}
 use Rattle.rg_base.specs.declared.object.Label.TheVariants.{Region, Frozen}
 use Rattle.rg_base.specs.declared.object.Seen.{Seen}
 use Rattle.rg_base.specs.declared.ty.Ty.{Ty}
+use Rattle.rg_base.specs.declared.ty.Ty.TheVariants.{Int}
 use Rattle.rg_base.specs.declared.value.Val.TheVariants as val
 use Rattle.rg_base.specs.declared.words.Cap.TheVariants.{Imm, Mut}
-use Rattle.rg_tree.specs.Tree.{Name, Right, StmtKind, Tree, Ty as Written, Variable, assign, declare, freeze, merge}
+use Rattle.rg_tree.specs.Tree.{Expr, Name, Path, Right, StmtKind, Tree, Ty as Written, Variable, assign, assign_element, declare, freeze, merge}
 use Rattle.rg_tree.specs.Tree.{more}
 use Rattle.rg_tree.specs.Tree.{new, new_iso, new_tmp, read, result_of, stmt, value}
 use Rattle.rg_rules.specs.Acceptance.{Accepted}
-use Rattle.rg_rules.specs.Evaluation.{follow_fields, object_at}
+use Rattle.rg_rules.specs.Environment.{Env}
+use Rattle.rg_rules.specs.Evaluation.{element_place, follow_fields, object_at, path_value, value_of}
 use Rattle.rg_rules.specs.Expressions.{Judged}
 use Rattle.rg_rules.specs.Items.{Do, Item}
 use Rattle.rg_rules.specs.Paths.{all_but_last, last_field}
@@ -19,14 +21,15 @@ use Rattle.rg_rules.specs.Regions.{beneath, region_of}
 use Rattle.rg_rules.specs.Rights.{judge_right}
 use Rattle.rg_rules.specs.RightSides.{Use, consumed, frozen, merged, with_right}
 use Rattle.rg_rules.specs.State.{Assigns, Declares, Drops, Frame, Local, State, Target, active, add_local, locals_of, put_local, top_locals, value_in}
-use Rattle.rg_rules.specs.Statements.{judge_assign, judge_declare}
-use Rattle.rg_rules.specs.Steps.{Went, next, put_field, step_first, step_kind}
+use Rattle.rg_rules.specs.Statements.{judge_assign, judge_assign_element, judge_declare}
+use Rattle.rg_rules.specs.Steps.{Went, next, put_element, put_field, step_first, step_kind}
 use Rattle.rg_rules.specs.Types.{type_of}
 use Rattle.rg_rules.proofs.Answers.{at_line-ok, bind-ok, then-ok}
+use Rattle.rg_rules.proofs.Expression.{judge_expr-env, number-not_iso}
 use Rattle.rg_rules.proofs.Step.{stepped-went}
 use Rattle.rg_sound.specs.Fit.{Fit}
 use Rattle.rg_sound.specs.Frames.{Running}
-use Rattle.rg_sound.proofs.Frames.Judge.{judge_assign-field, judge_assign-parts, judge_declare-parts}
+use Rattle.rg_sound.proofs.Frames.Judge.{judge_assign-element, judge_assign-field, judge_assign-parts, judge_declare-parts}
 use Rattle.rg_sound.proofs.Frames.Top.{Top, top-sees}
 use Rattle.rg_sound.proofs.Owners.Data.{Data}
 use Rattle.rg_sound.proofs.Owners.Receiver.{receiver-at}
@@ -40,8 +43,9 @@ use Rattle.rg_once.specs.Once.{HoldTheSame}
 use Rattle.rg_once.proofs.Answer.{Answer, mid}
 use Rattle.rg_once.proofs.Hang.{Shifts, hanging-stays}
 use Rattle.rg_once.proofs.Held.{Labelled, mid-same}
-use Rattle.rg_once.proofs.Made.{receiver-led}
-use Rattle.rg_once.proofs.Move.{Taken, alone-hangs, assign-shifts, beneath-hangs, declare-shifts, field-shifts, goes, taken-with}
+use Rattle.rg_once.proofs.Made.{hosted, receiver-led}
+use Rattle.rg_once.proofs.Move.{Taken, alone-hangs, assign-shifts, beneath-hangs, declare-shifts, element-shifts, field-shifts, goes}
+use Rattle.rg_once.proofs.Move.{taken-with}
 use Rattle.rg_once.proofs.Quiet.{ok-same}
 
 module _ (t : Tree) (p q : State) (f : Frame) (fs : List Frame) (rest later : List Item) (run : Running t f fs p.windows later)
@@ -57,9 +61,9 @@ module _ (t : Tree) (p q : State) (f : Frame) (fs : List Frame) (rest later : Li
   pub right-takes : (r : Right) → right_moves r ≡ true → judge_right t.classes run.spot.env wanted r ≡ Ok j
       → with_right t.classes start target put r ≡ Ok q → (k : Taken t p f fs run.spot.env.entries) × (q ≡ put k.after (val.Obj k.address))
   right-takes (value e) moved typed h = absurd cc
-  right-takes (new x) moved typed h = absurd cc
-  right-takes (new_tmp x) moved typed h = absurd cc
-  right-takes (new_iso x m) moved typed h = absurd cc
+  right-takes (new x size) moved typed h = absurd cc
+  right-takes (new_tmp x size) moved typed h = absurd cc
+  right-takes (new_iso x size m) moved typed h = absurd cc
   right-takes (freeze y) moved typed h =
       let o = bind-ok (object_at p.store (value_in (locals_of start) (Some y))) _ q h in
       let at : object_at p.store (value_in f.locals (Some y)) ≡ Ok o.0 = ap (object_at p.store) (sym (value-is y)) ∙ o.1 in
@@ -139,9 +143,30 @@ module _ (t : Tree) (accepted : Accepted t) (p q : State) (line : ℕ) (rest : L
       let k = right-takes t p q here.f here.fs rest (Do (stmt line (assign (record { base = x; fields = f ∷ fs }) r)) ∷ rest) here.r here.top
       here.frames here.fits parts.ty parts.judged Drops (put_field t.classes at.0 (last_field f fs)) r moved parts.typed host.2 in
       subst (Shifts t.classes p) (sym k.1)
-      (field-shifts t p here.f here.fs here.r.spot.env.entries k.0 at.0 (last_field f fs) host.0 v.address v.field.place v.field.value v.value v.there
-      v.top v.field.place_is v.field.value_is
-      (receiver-led t p x (all_but_last f fs) at.0 v.address here.f here.fs here.frames follows v.value))
+      (field-shifts t p here.f here.fs here.r.spot.env.entries k.0 host.0 v.address v.field.place v.field.value v.there v.top v.field.value_is
+      (receiver-led t p x (all_but_last f fs) at.0 v.address here.f here.fs here.frames follows v.value) at.0 (last_field f fs) v.value
+      v.field.place_is)
+
+  -- `q[e] = r`
+  element-moves : (a : Path) (i : Expr) (r : Right) → right_moves r ≡ true → p.items ≡ Do (stmt line (assign_element a i r)) ∷ rest
+      → step_kind t.classes begun line (assign_element a i r) ≡ Ok q → Shifts t.classes p q
+  element-moves a i r moved items e =
+      let here = doing t accepted p line (assign_element a i r) rest items fit in
+      let at = bind-ok (path_value t.classes p.store (locals_of begun) a) _ q e in
+      let host = bind-ok (object_at p.store at.0) _ q at.2 in
+      let index = bind-ok (value_of t.classes p.store (locals_of begun) i) _ q host.2 in
+      let place = bind-ok (element_place host.0 index.0) _ q index.2 in
+      let h = hosted t p line a i r rest here at.0 host.0 index.0 place.0 at.1 host.1 place.1 in
+      let j = doing-judges t p line (assign_element a i r) rest here in
+      let parts = judge_assign-element t.classes here.r.spot.env j.out a.base a.fields i r
+      (at_line-ok line (judge_assign_element t.classes here.r.spot.env a.base a.fields i r) j.out j.judged) in
+      let same : parts.index.env ≡ here.r.spot.env = judge_expr-env t.classes here.r.spot.env (Some Int) i parts.index parts.index_typed
+      (number-not_iso t.classes here.r.spot.env i parts.index parts.index_typed) in
+      let typed = subst (λ (env : Env). judge_right t.classes env parts.array.ty r ≡ Ok parts.judged) same parts.typed in
+      let k = right-takes t p q here.f here.fs rest (Do (stmt line (assign_element a i r)) ∷ rest) here.r here.top here.frames here.fits
+      parts.array.ty parts.judged Drops (put_element at.0 place.0) r moved typed place.2 in
+      subst (Shifts t.classes p) (sym k.1)
+      (element-shifts t p here.f here.fs here.r.spot.env.entries k.0 host.0 h.address place.0 h.old h.stood h.top h.there h.led at.0 h.value)
 
   kind-shifts : (k : StmtKind) → kind_moves k ≡ true → p.items ≡ Do (stmt line k) ∷ rest → step_kind t.classes begun line k ≡ Ok q
       → Shifts t.classes p q
@@ -152,6 +177,7 @@ module _ (t : Tree) (accepted : Accepted t) (p q : State) (line : ℕ) (rest : L
           → step_kind t.classes begun line (assign (record { base = x; fields = fs }) r) ≡ Ok q → Shifts t.classes p q
       by x [] items e = assign-moves x r moved items e
       by x (f ∷ fs) items e = field-moves x f fs r moved items e
+  kind-shifts (assign_element a i r) moved items e = element-moves a i r moved items e
   kind-shifts _ moved items e = absurd cc
 
 -- a step that freezes or merges

@@ -1,6 +1,7 @@
 -- Classes and their members are read by their rows.
-use Rattle.std.proofs.Common.{◌≡◌, ◌≢◌, ℕ, List, [], ◌∷◌, ◌++◌, length, true, false, Option, Some, None, refl, ◌∙◌, ap}
-use Rattle.std.proofs.Common.{append_assoc, append-nil}
+use Rattle.std.proofs.Common.{◌≡◌, ◌≢◌, ℕ, ◌<◌, Bool, List, [], ◌∷◌, ◌++◌, length, option_map, true, false, Option, Some, None, refl, ◌∙◌, ap}
+use Rattle.std.proofs.Common.{append_assoc, append-nil, arith}
+use Rattle.std.proofs.lemmas.List.Elements.{All-nil}
 use Rattle.rg_base.specs.declared.words.Cap.{Cap}
 use Rattle.rg_base.specs.declared.words.Keyword.TheVariants as w
 use Rattle.rg_base.specs.declared.words.Sign.TheVariants as s
@@ -11,15 +12,17 @@ use Rattle.rg_tree.specs.declared.rows.Span.{Span}
 use Rattle.rg_tree.specs.declared.rows.TypeRow.{TypeRow}
 use Rattle.rg_tree.specs.declared.rows.MemberRow.{MemberRow}
 use Rattle.rg_tree.specs.declared.rows.MemberRow.TheVariants as member_row
-use Rattle.rg_tree.specs.Tree.{Param, Member, field, method}
+use Rattle.rg_tree.specs.Tree.{Name, Param, Member, field, method}
 use Rattle.rg_tree.specs.Forms as form
+use Rattle.rg_tree.specs.Forms.{Given}
 use Rattle.rg_tree.specs.Phrases.{Symbol, that, mark, class_name, field_name, method_name, param_name, the}
 use Rattle.rg_tree.specs.Phrases as p
-use Rattle.rg_tree.specs.Grammar.{Reads, text, class_row, tmp_class_row, field_row, method_row, no_members, first_param, no_params, next_param}
-use Rattle.rg_tree.specs.Grammar.{no_more_params}
+use Rattle.rg_tree.specs.Grammar.{Reads, text, class_row, tmp_class_row, members_row, element_row, field_row, method_row, no_members, first_param}
+use Rattle.rg_tree.specs.Grammar.{no_params, next_param, no_more_params}
 use Rattle.rg_tree.specs.Stuck.{line_at, fits}
-use Rattle.rg_tree.specs.Rows.RowTrees.{param_at, param_of, member_at, member_of}
-use Rattle.rg_tree.specs.Rows.RowsExist.{IsParamIn, IsParamNumber, IsMemberNumber}
+use Rattle.rg_tree.specs.Rows.Tables.{Tables, name_at}
+use Rattle.rg_tree.specs.Rows.RowTrees.{type_of, param_at, param_of, member_at, member_of, members_under, class_of}
+use Rattle.rg_tree.specs.Rows.RowsExist.{IsSpanBelow, IsNameIn, IsParamIn, IsClassIn, IsParamNumber, IsMemberNumber}
 use Rattle.rg_tree.specs.Table.{next, row}
 use Rattle.rg_tree.proofs.Passing.{passes}
 use Rattle.rg_tree.proofs.Stopping.{kind_is}
@@ -28,41 +31,68 @@ use Rattle.rg_parse.specs.declared.reader.halt.Halt.{Halt}
 use Rattle.rg_parse.specs.declared.reader.halt.Halt.TheVariants as halt
 use Rattle.rg_parse.specs.declared.reader.limits.Role.TheVariants as role
 use Rattle.rg_parse.specs.Inner.Lists.{numbers_of, IsListed}
-use Rattle.rg_parse.specs.Inner.Readings.{FoundClass, FoundMembers, FoundMember, FoundParams, FoundParam, param_symbols, param_row}
-use Rattle.rg_parse.specs.Inner.Readings.{FoundType, FoundCap, FoundResult, FoundBlock}
-use Rattle.rg_parse.specs.Inner.Steps.{State, Took, took, took_brace, took_paren, Declared, declared, found, Kept, kept, Halts}
+use Rattle.rg_parse.specs.Inner.Readings.{FoundClass, FoundClassRest, rest_in, IsRestIn, FoundMembers, FoundMember, FoundParams, FoundParam}
+use Rattle.rg_parse.specs.Inner.Readings.{param_symbols, param_row, FoundType, FoundCap, FoundResult, FoundBlock}
+use Rattle.rg_parse.specs.Inner.Steps.{State, Extends, Took, took, took_brace, took_paren, took_bracket, Declared, declared, found, Kept, kept, Halts}
 use Rattle.rg_parse.proofs.Growing.{extends-same, extends-trans, means-later, means-as}
 use Rattle.rg_parse.proofs.Halting.{halts-none, halts-row, halts-took, halts-declared, halts-found, halts-tables}
 use Rattle.rg_parse.proofs.Loops.{st, Along, along, means-nil, means-push, means-span}
 
 -- classes
 
-pub class-found : {a b c d e f : State} {n : ℕ} {x : Span} (line : ℕ) → line ≡ line_at 0 a.rest → Took (k.Word w.Class) a b
-    → Declared class_name b n c
-    → Took (k.Mark s.OpenBrace) c d → FoundMembers d x e → Took (k.Mark s.CloseBrace) e f
-    → FoundClass a (record { name = n; is_tmp = false; members = x; line = line }) f
-class-found line z (took i1 h1) (declared h2 l2 n g2) (took i3 h3) q t = absurd i3
-class-found line z (took {t = t} i1 h1) (declared {source = source} {t = v} h2 l2 n g2) (took_brace h3 l3) (found y r m g) (took i5 h5) =
-    found (record { name = text source v; is_tmp = false; members = y; line = t.line }) (class_row h1 h2 l2 h3 l3 r h5)
-    (record {
-      is = λ u o. let e1 = (means-later n g).is u o in let e2 = m.is u o in cc;
-      there = λ u o. record { name = (means-later n g).there u o; members = m.there u o };
-    })
-    (extends-trans g2 g)
+-- the row of a class stands for the class
+class-means : {t u : Tables} {n : ℕ} {x : Option TypeRow × Span} {y : Given form.ClassRest} {name : Name} (is_tmp : Bool) (line : ℕ)
+    → Means name_at IsNameIn t n name → Extends t u → Means rest_in IsRestIn u x y
+    → Means class_of IsClassIn u (record { name = n; is_tmp = is_tmp; element = x.0; members = x.1; line = line })
+    (record { name = name; is_tmp = is_tmp; element = y.0; members = y.1; line = line })
+class-means {x = x} {y = y} is_tmp line n g m = record {
+  is =
+      λ v o.
+      let e1 = (means-later n g).is v o in
+      let e2 : option_map (type_of v) x.0 ≡ y.0 = ap (λ (r : Given form.ClassRest). r.0) (m.is v o) in
+      let e3 : members_under v x.0 x.1 ≡ y.1 = ap (λ (r : Given form.ClassRest). r.1) (m.is v o) in
+      cc;
+  there = λ v o. record { name = (means-later n g).there v o; element = (m.there v o).0; members = (m.there v o).1 };
+}
 
-pub tmp_class-found : {a b c d e f h : State} {n : ℕ} {x : Span} (line : ℕ) → line ≡ line_at 0 a.rest → Took (k.Word w.Tmp) a b
-    → Took (k.Word w.Class) b c
-    → Declared class_name c n d → Took (k.Mark s.OpenBrace) d e → FoundMembers e x f → Took (k.Mark s.CloseBrace) f h
-    → FoundClass a (record { name = n; is_tmp = true; members = x; line = line }) h
-tmp_class-found line z (took i1 h1) (took i h) (declared h2 l2 n g2) (took i3 h3) q t = absurd i3
-tmp_class-found line z (took {t = t} i1 h1) (took i h) (declared {source = source} {t = v} h2 l2 n g2) (took_brace h3 l3) (found y r m g)
-    (took i5 h5) =
-    found (record { name = text source v; is_tmp = true; members = y; line = t.line }) (tmp_class_row h1 h h2 l2 h3 l3 r h5)
-    (record {
-      is = λ u o. let e1 = (means-later n g).is u o in let e2 = m.is u o in cc;
-      there = λ u o. record { name = (means-later n g).there u o; members = m.there u o };
-    })
-    (extends-trans g2 g)
+pub class-found : {a b c d : State} {n : ℕ} {x : Option TypeRow × Span} (line : ℕ) → line ≡ line_at 0 a.rest → Took (k.Word w.Class) a b
+    → Declared class_name b n c → FoundClassRest c x d
+    → FoundClass a (record { name = n; is_tmp = false; element = x.0; members = x.1; line = line }) d
+class-found line z (took {t = t} i1 h1) (declared {source = source} {t = v} h2 l2 n g2) (found y r m g) =
+    rw z (found (record { name = text source v; is_tmp = false; element = y.0; members = y.1; line = t.line }) (class_row h1 h2 l2 r)
+    (class-means false t.line n g m) (extends-trans g2 g))
+
+pub tmp_class-found : {a b c d e : State} {n : ℕ} {x : Option TypeRow × Span} (line : ℕ) → line ≡ line_at 0 a.rest → Took (k.Word w.Tmp) a b
+    → Took (k.Word w.Class) b c → Declared class_name c n d → FoundClassRest d x e
+    → FoundClass a (record { name = n; is_tmp = true; element = x.0; members = x.1; line = line }) e
+tmp_class-found line z (took {t = t} i1 h1) (took i h) (declared {source = source} {t = v} h2 l2 n g2) (found y r m g) =
+    rw z (found (record { name = text source v; is_tmp = true; element = y.0; members = y.1; line = t.line }) (tmp_class_row h1 h h2 l2 r)
+    (class-means true t.line n g m) (extends-trans g2 g))
+
+-- what stands behind their names
+
+pub members_row-found : {a b c d : State} {x : Span} → Took (k.Mark s.OpenBrace) a b → FoundMembers b x c → Took (k.Mark s.CloseBrace) c d
+    → FoundClassRest a (None, x) d
+members_row-found (took i h) q t = absurd i
+members_row-found (took_brace h l) (found y r m g) (took i f) =
+    found (None, y) (members_row h l r f)
+    (record { is = λ u o. let e = m.is u o in cc; there = λ u o. (tt, m.there u o) }) g
+
+-- no members
+no_members-there : (u : Tables) → IsSpanBelow u (length u.members) (record { from = 0; to = 0 })
+no_members-there u = record { within = record { ordered = omega arith; ends = omega arith }; each = All-nil (λ k. k < length u.members) }
+
+pub element_row-found : {a b c d e : State} {y : TypeRow} → Took (k.Mark s.OpenBracket) a b → FoundType b y c → Took (k.Mark s.CloseBracket) c d
+    → Took (k.Mark s.Semicolon) d e → FoundClassRest a (Some y, record { from = 0; to = 0 }) e
+element_row-found (took i h) q t v = absurd i
+element_row-found (took_bracket h l) (found y r m g) (took i f) (took i' f') =
+    found (Some y, []) (element_row h l r f f')
+    (record { is = λ u o. let e = m.is u o in cc; there = λ u o. (m.there u o, no_members-there u) }) g
+
+pub no-class_rest : (o : Option Kind) → o ≢ Some (k.Mark s.OpenBrace) → o ≢ Some (k.Mark s.OpenBracket) → row p.ClassRest o ≡ None
+no-class_rest (Some (k.Mark s.OpenBrace)) h i = absurd (h refl)
+no-class_rest (Some (k.Mark s.OpenBracket)) h i = absurd (i refl)
+no-class_rest _ h i = refl
 
 -- members
 

@@ -9,16 +9,17 @@ use Rattle.rg_tree.specs.declared.counts.Counts.{Counts}
 use Rattle.rg_tree.specs.declared.rows.BinOp.{BinOp}
 use Rattle.rg_tree.specs.declared.rows.BinOp.TheVariants as op
 use Rattle.rg_tree.specs.declared.rows.Path as row_path
+use Rattle.rg_tree.specs.declared.rows.ExprRow.{ExprRow}
 use Rattle.rg_tree.specs.declared.rows.ExprRow.TheVariants as expr_row
 use Rattle.rg_tree.specs.Counts.{one_sign}
-use Rattle.rg_tree.specs.Tree.{Expr, path, is_nil, neg, not, binary}
+use Rattle.rg_tree.specs.Tree.{Expr, path, is_nil, neg, not, binary, size, element}
 use Rattle.rg_tree.specs.Forms as form
-use Rattle.rg_tree.specs.Phrases.{Symbol, that, sign, mark, the}
+use Rattle.rg_tree.specs.Phrases.{Symbol, that, sign, word, mark, the}
 use Rattle.rg_tree.specs.Phrases as p
 use Rattle.rg_tree.specs.Grammar as grammar
 use Rattle.rg_tree.specs.Grammar.{Reads}
 use Rattle.rg_tree.specs.Operators.{comparison_of, literal_of}
-use Rattle.rg_tree.specs.Rows.RowTrees.{expr_at, expr_of}
+use Rattle.rg_tree.specs.Rows.RowTrees.{path_of, expr_at, expr_of}
 use Rattle.rg_tree.specs.Rows.RowsExist.{IsExprNumber, IsPathIn}
 use Rattle.rg_tree.specs.Table.{next, row}
 use Rattle.rg_tree.specs.Rows.Tables.{Tables}
@@ -32,8 +33,9 @@ use Rattle.rg_parse.specs.Inner.Starts.{primary_start}
 use Rattle.rg_parse.specs.declared.reader.starts.PrimaryStart.{PrimaryStart}
 use Rattle.rg_parse.specs.declared.reader.starts.PrimaryStart.TheVariants as start
 use Rattle.rg_parse.specs.Inner.Readings.{FoundChain, FoundOperand, FoundExpr, FoundNot, FoundCmp, FoundUnary, FoundPrimary, FoundPath}
-use Rattle.rg_parse.specs.Inner.Steps.{State, Took, took, took_brace, took_paren, Signed, signed, found, Kept, kept, Extends, Halts}
-use Rattle.rg_parse.proofs.Growing.{extends-same, extends-trans, means-later}
+use Rattle.rg_parse.specs.Inner.Readings.{FoundIs, FoundIndex, FoundSomeIndex, index_row}
+use Rattle.rg_parse.specs.Inner.Steps.{State, Took, took, took_brace, took_paren, took_bracket, Signed, signed, found, Kept, kept, Extends, Halts}
+use Rattle.rg_parse.proofs.Growing.{extends-same, extends-trans, means-later, path-means}
 use Rattle.rg_parse.proofs.Halting.{halts-row, halts-here, halts-signed, halts-found, halts-kept}
 use Rattle.rg_parse.proofs.Loops.{st}
 use Rattle.rg_parse.proofs.TypeRows.{stays}
@@ -252,6 +254,7 @@ primary_row start.True = Some (that (k.Word w.True) ∷ [])
 primary_row start.False = Some (that (k.Word w.False) ∷ [])
 primary_row start.Nil = Some (that (k.Word w.Nil) ∷ [])
 primary_row start.Paren = Some (mark s.OpenParen ∷ the p.Expr ∷ mark s.CloseParen ∷ [])
+primary_row start.Size = Some (word w.Size ∷ the p.Path ∷ [])
 primary_row start.Path = Some (the p.Path ∷ the p.Is ∷ [])
 primary_row start.Nothing = None
 
@@ -261,6 +264,7 @@ primary-rows (Some (k.Word w.True)) = refl
 primary-rows (Some (k.Word w.False)) = refl
 primary-rows (Some (k.Word w.Nil)) = refl
 primary-rows (Some (k.Mark s.OpenParen)) = refl
+primary-rows (Some (k.Word w.Size)) = refl
 primary-rows (Some k.Name) = refl
 primary-rows (Some (k.Word w.SelfWord)) = refl
 primary-rows _ = refl
@@ -272,6 +276,9 @@ pub paren-row : (o : Option Kind) → primary_start o ≡ start.Paren
     → row p.Primary o ≡ Some (mark s.OpenParen ∷ the p.Expr ∷ mark s.CloseParen ∷ [])
 paren-row o e = primary-rows o ∙ ap primary_row e
 
+pub size-row : (o : Option Kind) → primary_start o ≡ start.Size → row p.Primary o ≡ Some (word w.Size ∷ the p.Path ∷ [])
+size-row o e = primary-rows o ∙ ap primary_row e
+
 pub path-row : (o : Option Kind) → primary_start o ≡ start.Path → row p.Primary o ≡ Some (the p.Path ∷ the p.Is ∷ [])
 path-row o e = primary-rows o ∙ ap primary_row e
 
@@ -282,26 +289,68 @@ literal-found x y e (took {source = source} {t = t} {ts = ts} {c = c} i h) (kept
     found y (subst (λ d. Reads source form.Primary c (t ∷ ts) y d ts) (sym (stays x c i (literal_of-behind x y c e))) r) m l
 literal-found _ y e (took_brace h l) (kept g) m = absurd (none-some e)
 literal-found _ y e (took_paren h l) (kept g) m = absurd (none-some e)
+literal-found _ y e (took_bracket h l) (kept g) m = absurd (none-some e)
 
 pub parens-found : {a b c d : State} {n : ℕ} → Took (k.Mark s.OpenParen) a b → FoundExpr b n c → Took (k.Mark s.CloseParen) c d → FoundPrimary a n d
 parens-found (took i h) q t = absurd i
 parens-found (took_paren h l) (found x r m g) (took i f) = found x (grammar.parens h l r f) m g
 
-no_is-row : (o : Option Kind) → o ≢ Some (k.Word w.Is) → row p.Is o ≡ Some []
-no_is-row (Some (k.Word w.Is)) h = absurd (h refl)
-no_is-row _ h = refl
+pub size-found : {a b c d : State} {q : row_path.Path} {n : ℕ} → Took (k.Word w.Size) a b → FoundPath b q c → Kept c d
+    → Means expr_at IsExprNumber d.tables n (expr_of c.tables (expr_row.Size q)) → FoundPrimary a n d
+size-found (took i h) (found {v = v} x r m g) (kept l) n =
+    found (size x) (grammar.size_row h r) (record { is = λ u z. n.is u z ∙ ap size (m.is v (extends-same v).keeps); there = n.there })
+    (extends-trans g l)
 
-pub path-found : {a b c : State} {q : row_path.Path} {n : ℕ} → FoundPath a q b → next b.rest ≢ Some (k.Word w.Is) → Kept b c
-    → Means expr_at IsExprNumber c.tables n (expr_of b.tables (expr_row.Path q)) → FoundPrimary a n c
-path-found (found {us = us} {v = v} x r m g) h (kept l) n =
-    found (path x) (grammar.path_value r (grammar.no_is (no_is-row (next us) h)))
-    (record { is = λ u z. n.is u z ∙ ap path (m.is v (extends-same v).keeps); there = n.there }) (extends-trans g l)
+-- indices, and what stands behind a path
 
-pub is_nil-found : {a b c d f : State} {q : row_path.Path} {n : ℕ} → FoundPath a q b → Took (k.Word w.Is) b c → Took (k.Word w.Nil) c d → Kept d f
-    → Means expr_at IsExprNumber f.tables n (expr_of d.tables (expr_row.IsNil q)) → FoundPrimary a n f
-is_nil-found (found {v = v} x r m g) (took i h) (took i' h') (kept l) n =
-    found (is_nil x) (grammar.path_value r (grammar.is_row h h'))
-    (record { is = λ u z. n.is u z ∙ ap is_nil (m.is v (extends-same v).keeps); there = n.there }) (extends-trans g l)
+pub some_index-found : {a b c d : State} {n : ℕ} → Took (k.Mark s.OpenBracket) a b → FoundExpr b n c → Took (k.Mark s.CloseBracket) c d
+    → FoundSomeIndex a n d
+some_index-found (took i h) q t = absurd i
+some_index-found (took_bracket h l) (found x r m g) (took i f) = found x (index_row h l r f) m g
+
+pub index-found : {a b : State} {n : ℕ} → FoundSomeIndex a n b → FoundIndex a (Some n) b
+index-found (found x (index_row h l r f) m g) =
+    found (Some x) (grammar.at_row h l r f) (record { is = λ u z. ap Some (m.is u z); there = m.there }) g
+
+no_index-row : (o : Option Kind) → o ≢ Some (k.Mark s.OpenBracket) → row p.At o ≡ Some []
+no_index-row (Some (k.Mark s.OpenBracket)) h = absurd (h refl)
+no_index-row _ h = refl
+
+pub no_index-found : (a : State) → next a.rest ≢ Some (k.Mark s.OpenBracket) → FoundIndex a None a
+no_index-found a h = found None (grammar.no_at (no_index-row (next a.rest) h))
+    (record { is = λ u z. refl; there = λ u z. tt }) (extends-same a.tables)
+
+pub is_nil-found : {a b c : State} (q : row_path.Path) → IsPathIn a.tables q → Took (k.Word w.Is) a b → Took (k.Word w.Nil) b c
+    → FoundIs (path_of a.tables q) a (expr_row.IsNil q) c
+is_nil-found q there (took {u = u} i h) (took i' h') =
+    let m = path-means q there in
+    found (is_nil (path_of u q)) (grammar.is_row h h') (record { is = λ v z. ap is_nil (m.is v z); there = m.there }) (extends-same u)
+
+pub element-found : {a b : State} {n : ℕ} (q : row_path.Path) → IsPathIn a.tables q → FoundSomeIndex a n b
+    → FoundIs (path_of a.tables q) a (expr_row.At q n) b
+element-found q there (found {u = u} x (index_row h l r f) m g) =
+    let n = means-later (path-means q there) g in
+    found (element (path_of u q) x) (grammar.element_of h l r f)
+    (record { is = λ v z. let e1 = n.is v z in let e2 = m.is v z in cc; there = λ v z. (n.there v z, m.there v z) }) g
+
+no_is-row : (o : Option Kind) → o ≢ Some (k.Word w.Is) → o ≢ Some (k.Mark s.OpenBracket) → row p.Is o ≡ Some []
+no_is-row (Some (k.Word w.Is)) h i = absurd (h refl)
+no_is-row (Some (k.Mark s.OpenBracket)) h i = absurd (i refl)
+no_is-row _ h i = refl
+
+pub no_is-found : (a : State) (q : row_path.Path) → IsPathIn a.tables q → next a.rest ≢ Some (k.Word w.Is)
+    → next a.rest ≢ Some (k.Mark s.OpenBracket) → FoundIs (path_of a.tables q) a (expr_row.Path q) a
+no_is-found a q there h i =
+    let m = path-means q there in
+    found (path (path_of a.tables q)) (grammar.no_is (no_is-row (next a.rest) h i))
+    (record { is = λ v z. ap path (m.is v z); there = m.there }) (extends-same a.tables)
+
+pub path-found : {a b c d : State} {q : row_path.Path} {x : ExprRow} {n : ℕ} → FoundPath a q b → FoundIs (path_of b.tables q) b x c → Kept c d
+    → Means expr_at IsExprNumber d.tables n (expr_of c.tables x) → FoundPrimary a n d
+path-found (found {source = source} {us = ts} {d = c} {v = v} y r m g) (found {us = us} {d = d} {v = w} z s o k) (kept l) n =
+    let read = subst (λ p. Reads source (form.Is p) c ts z d us) (m.is v (extends-same v).keeps) s in
+    found z (grammar.path_value r read) (record { is = λ u q. n.is u q ∙ o.is w (extends-same w).keeps; there = n.there })
+    (extends-trans g (extends-trans k l))
 
 -- The operands of a row exist.
 
@@ -313,6 +362,3 @@ chain-there l x (goes y m g reads halts) (signed h i) (found {v = u} z r n k) =
 pub compared-there : (x : Kind) {a b c d : State} {n m : ℕ} → FoundChain level.Sum a n b → Signed x b c → FoundChain level.Sum c m d
     → IsExprNumber d.tables n × IsExprNumber d.tables m
 compared-there x (found y r m g) (signed h i) (found {v = u} z t n k) = (m.there u k.keeps, n.there u (extends-same u).keeps)
-
-pub is_nil-there : {a b c d : State} {q : row_path.Path} → FoundPath a q b → Took (k.Word w.Is) b c → Took (k.Word w.Nil) c d → IsPathIn d.tables q
-is_nil-there (found {v = u} x r m g) (took i h) (took j l) = m.there u (extends-same u).keeps

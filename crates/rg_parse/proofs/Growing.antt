@@ -1,19 +1,21 @@
 -- Rows stand for the same trees wherever the tables grow.
 use Rattle.std.proofs.Common.{◌≡◌, ℕ, List, Option, None, Some, IfSome, option_map, refl, ap, ◌∙◌}
 use Rattle.rg_tree.specs.declared.rows.Span.{Span}
+use Rattle.rg_tree.specs.declared.rows.Path as row_path
 use Rattle.rg_tree.specs.Rows.Tables.{Tables, name_at}
-use Rattle.rg_tree.specs.Rows.RowsExist.{IsNameIn}
-use Rattle.rg_tree.specs.Rows.RowsExist.{Holds}
+use Rattle.rg_tree.specs.Rows.RowTrees.{path_of}
+use Rattle.rg_tree.specs.Rows.RowsExist.{IsNameIn, IsPathIn, Holds}
 use Rattle.rg_tree.proofs.Callers.{Holds-keeps}
+use Rattle.rg_tree.proofs.Grows.{path_of-grows, IsPathIn-grows}
 use Rattle.rg_parse.specs.Inner.Lists.{numbers_of, IsListed}
-use Rattle.rg_tree.proofs.Callers.{Keeps-same, Keeps-trans}
+use Rattle.rg_tree.proofs.Callers.{Keeps-same, Keeps-trans, IsAbove-Keeps}
 use Rattle.rg_base.specs.declared.token.Kind.{Kind}
 use Rattle.rg_base.specs.declared.token.Token.{Token}
 use Rattle.rg_tree.specs.declared.counts.Counts.{Counts}
 use Rattle.rg_tree.specs.Keeps.{Keeps}
 use Rattle.rg_tree.specs.Adds.{Means}
 use Rattle.rg_tree.proofs.Adding.{name-means, means-kept}
-use Rattle.rg_parse.specs.Inner.Steps.{State, Extends, Kept, kept, Found, found, Took, took, took_brace, took_paren, Signed, signed}
+use Rattle.rg_parse.specs.Inner.Steps.{State, Extends, Found, found, Took, took, took_brace, took_paren, took_bracket, Signed, signed, Kept, kept}
 
 pub order-means : {t : Tables} (s : Span) (ks : List ℕ) → Holds t s ks → Means numbers_of IsListed t s ks
 order-means s ks h = record { is = λ u k. (Holds-keeps k s ks h).these_are; there = λ u k. (Holds-keeps k s ks h).within }
@@ -41,6 +43,9 @@ pub base-means : {t : Tables} (o : Option ℕ) → IfSome o (IsNameIn t)
 base-means None h = record { is = λ u k. refl; there = λ u k. tt }
 base-means (Some n) h = let m = name-means n _ refl h in record { is = λ u k. ap Some (m.is u k); there = m.there }
 
+pub path-means : {t : Tables} (q : row_path.Path) → IsPathIn t q → Means path_of IsPathIn t q (path_of t q)
+path-means q h = record { is = λ u k. path_of-grows (IsAbove-Keeps k) q h; there = λ u k. IsPathIn-grows (IsAbove-Keeps k) q h }
+
 -- it stands for an equal tree
 pub means-as : {V A : Type 0} {tree : Tables → V → A} {exists : Tables → V → Type 0} {t : Tables} {v : V} {a b : A} → Means tree exists t v a → a ≡ b
     → Means tree exists t v b
@@ -66,6 +71,7 @@ pub took-stays : {x : Kind} {a b : State} → Took x a b → Extends a.tables b.
 took-stays (took {u = u} i h) = extends-same u
 took-stays (took_brace {u = u} h l) = extends-same u
 took-stays (took_paren {u = u} h l) = extends-same u
+took-stays (took_bracket {u = u} h l) = extends-same u
 
 pub signed-stays : {x : Kind} {a b : State} → Signed x a b → Extends a.tables b.tables
 signed-stays (signed {u = u} i h) = extends-same u

@@ -21,8 +21,8 @@ use Rattle.rg_parse.specs.declared.reader.halt.Halt.{Halt}
 use Rattle.rg_parse.specs.declared.reader.halt.Halt.TheVariants as halt
 use Rattle.rg_parse.specs.declared.reader.limits.Role.{Role}
 use Rattle.rg_parse.specs.Inner.Roles.{symbol_of}
-use Rattle.rg_parse.specs.Inner.Steps.{State, Halts, Took, took, took_brace, took_paren, Signed, signed, Used, used, Declared, declared, Found, found}
-use Rattle.rg_parse.specs.Inner.Steps.{Kept, kept, settled, IsFree}
+use Rattle.rg_parse.specs.Inner.Steps.{State, Halts, Took, took, took_brace, took_paren, took_bracket, Signed, signed, Used, used, Declared}
+use Rattle.rg_parse.specs.Inner.Steps.{declared, Found, found, Kept, kept, settled, IsFree}
 use Rattle.rg_parse.proofs.Tokens.{expected-symbol_of}
 
 -- want of memory says nothing
@@ -48,8 +48,10 @@ halts-here {ys = ys} (halt.At f) w = record { stops = λ ss. w.stops (ys ++ ss) 
 pub free-behind : (x : Kind) (c : Counts) → IsFree x → behind x c ≡ Ok (settled x c)
 free-behind (k.Mark s.OpenBrace) c h = absurd h
 free-behind (k.Mark s.OpenParen) c h = absurd h
+free-behind (k.Mark s.OpenBracket) c h = absurd h
 free-behind (k.Mark s.CloseBrace) c h = refl
 free-behind (k.Mark s.CloseParen) c h = refl
+free-behind (k.Mark s.CloseBracket) c h = refl
 free-behind (k.Word w.Def) c h = refl
 free-behind (k.Word w.Main) c h = refl
 free-behind _ c h = refl
@@ -60,6 +62,7 @@ halts-took halt.Memory h w = record { stops = tt }
 halts-took {x} (halt.At f) (took {c = c} i h) w = record { stops = λ ss. fits {y = that x} (kind_is h) (free-behind x c i) (w.stops ss) }
 halts-took (halt.At f) (took_brace h l) w = record { stops = λ ss. fits {y = that (k.Mark s.OpenBrace)} (kind_is h) l (w.stops ss) }
 halts-took (halt.At f) (took_paren h l) w = record { stops = λ ss. fits {y = that (k.Mark s.OpenParen)} (kind_is h) l (w.stops ss) }
+halts-took (halt.At f) (took_bracket h l) w = record { stops = λ ss. fits {y = that (k.Mark s.OpenBracket)} (kind_is h) l (w.stops ss) }
 
 pub halts-signed : {x : Kind} {ys : List Symbol} {a m b : State} (e : Halt) → Signed x a m → Halts ys m e b → Halts (sign x ∷ ys) a e b
 halts-signed halt.Memory h w = record { stops = tt }
@@ -98,3 +101,4 @@ pub took-next : {x : Kind} {a b : State} → Took x a b → next a.rest ≡ Some
 took-next (took i h) = ap Some h
 took-next (took_brace h l) = ap Some h
 took-next (took_paren h l) = ap Some h
+took-next (took_bracket h l) = ap Some h

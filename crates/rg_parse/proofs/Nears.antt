@@ -23,8 +23,10 @@ near-closed c d n e = let h : closed c ≡ d = cc in rw (← h) (record { params
 pub near-behind : (x : Kind) (c d : Counts) → IsNear c → behind x c ≡ Ok d → IsNear d
 near-behind (k.Mark s.OpenBrace) c d n e = near-opened c d n e
 near-behind (k.Mark s.OpenParen) c d n e = near-opened c d n e
+near-behind (k.Mark s.OpenBracket) c d n e = near-opened c d n e
 near-behind (k.Mark s.CloseBrace) c d n e = near-closed c d n e
 near-behind (k.Mark s.CloseParen) c d n e = near-closed c d n e
+near-behind (k.Mark s.CloseBracket) c d n e = near-closed c d n e
 near-behind (k.Word w.Def) c d n e = let h : method_begins c ≡ d = cc in rw (← h) (record { params = omega arith; names = omega arith })
 near-behind (k.Word w.Main) c d n e = let h : main_begins c ≡ d = cc in rw (← h) (record { params = n.params; names = omega arith })
 near-behind x c d n e = let h : c ≡ d = cc in rw (← h) n

@@ -18,7 +18,7 @@ use Rattle.rg_parse.specs.declared.reader.starts.NewStart.{NewStart}
 use Rattle.std.proofs.lemmas.Bool.{false≢true}
 use Rattle.rg_parse.specs.declared.reader.starts.RightStart.TheVariants as right
 use Rattle.rg_parse.specs.declared.reader.starts.NewStart.TheVariants as new_kind
-use Rattle.rg_parse.specs.Inner.Readings.{FoundRight, FoundNew, FoundCall, FoundExpr, FoundManager}
+use Rattle.rg_parse.specs.Inner.Readings.{FoundRight, FoundNew, FoundIndex, FoundCall, FoundExpr, FoundManager}
 use Rattle.rg_parse.specs.Inner.Steps.{State, Took, took, Used, used, found}
 use Rattle.rg_parse.proofs.Growing.{extends-same, extends-trans, means-later}
 
@@ -43,9 +43,9 @@ right-rows (Some (k.Word w.Call)) = refl
 right-rows _ = refl
 
 abbrev row_of_new : NewStart → Option (List Symbol)
-row_of_new new_kind.Plain = Some (name ∷ [])
-row_of_new new_kind.Tmp = Some (word w.Tmp ∷ name ∷ [])
-row_of_new new_kind.Iso = Some (word w.Iso ∷ name ∷ word w.In ∷ the p.Manager ∷ [])
+row_of_new new_kind.Plain = Some (name ∷ the p.At ∷ [])
+row_of_new new_kind.Tmp = Some (word w.Tmp ∷ name ∷ the p.At ∷ [])
+row_of_new new_kind.Iso = Some (word w.Iso ∷ name ∷ the p.At ∷ word w.In ∷ the p.Manager ∷ [])
 row_of_new new_kind.Nothing = None
 
 new-rows : (o : Option Kind) → row p.New o ≡ row_of_new (new_start o)
@@ -84,13 +84,14 @@ pub call-next : (o : Option Kind) → right_start o ≡ right.Call → o ≡ Som
 call-next (Some (k.Word w.Call)) e = refl
 call-next _ e = absurd (false≢true (ap is_call e))
 
-pub new_plain-row : (o : Option Kind) → new_start o ≡ new_kind.Plain → row p.New o ≡ Some (name ∷ [])
+pub new_plain-row : (o : Option Kind) → new_start o ≡ new_kind.Plain → row p.New o ≡ Some (name ∷ the p.At ∷ [])
 new_plain-row o e = new-rows o ∙ ap row_of_new e
 
-pub new_tmp-row : (o : Option Kind) → new_start o ≡ new_kind.Tmp → row p.New o ≡ Some (word w.Tmp ∷ name ∷ [])
+pub new_tmp-row : (o : Option Kind) → new_start o ≡ new_kind.Tmp → row p.New o ≡ Some (word w.Tmp ∷ name ∷ the p.At ∷ [])
 new_tmp-row o e = new-rows o ∙ ap row_of_new e
 
-pub new_iso-row : (o : Option Kind) → new_start o ≡ new_kind.Iso → row p.New o ≡ Some (word w.Iso ∷ name ∷ word w.In ∷ the p.Manager ∷ [])
+pub new_iso-row : (o : Option Kind) → new_start o ≡ new_kind.Iso
+    → row p.New o ≡ Some (word w.Iso ∷ name ∷ the p.At ∷ word w.In ∷ the p.Manager ∷ [])
 new_iso-row o e = new-rows o ∙ ap row_of_new e
 
 pub no-new : (o : Option Kind) → new_start o ≡ new_kind.Nothing → row p.New o ≡ None
@@ -119,20 +120,32 @@ call_right-found (found x r n g) = found (result_of x) (result_row r) (record { 
 pub value-found : {a b : State} {e : ℕ} → row p.Right (next a.rest) ≡ Some (the p.Expr ∷ []) → FoundExpr a e b → FoundRight a (right_row.Expr e) b
 value-found h (found x r n g) = found (value x) (value_row h r) (record { is = λ u z. ap value (n.is u z); there = n.there }) g
 
-pub new_plain-found : {a b : State} {n : ℕ} → Used a n b → FoundNew a (right_row.New n) b
-new_plain-found (used {source = source} {t = t} j n l) =
-    found (new (text source t)) (new_plain j) (record { is = λ u z. ap new (n.is u z); there = n.there }) l
-
-pub new_tmp-found : {a m b : State} {n : ℕ} → Took (k.Word w.Tmp) a m → Used m n b → FoundNew a (right_row.NewTmp n) b
-new_tmp-found (took i h) (used {source = source} {t = t} j n l) =
-    found (new_tmp (text source t)) (new_temporary h j) (record { is = λ u z. ap new_tmp (n.is u z); there = n.there }) l
-
-pub new_iso-found : {a m i o b : State} {n : ℕ} {x : Manager} → Took (k.Word w.Iso) a m → Used m n i → Took (k.Word w.In) i o
-    → FoundManager o x b → FoundNew a (right_row.NewIso n x) b
-new_iso-found (took i h) (used {source = source} {t = t} j n l) (took i' f) (found y r q g) =
-    found (new_iso (text source t) y) (new_region h j f r)
+pub new_plain-found : {a m b : State} {n : ℕ} {o : Option ℕ} → Used a n m → FoundIndex m o b → FoundNew a (right_row.New n o) b
+new_plain-found (used {source = source} {t = t} j n l) (found x r m g) =
+    found (new (text source t) x) (new_plain j r)
     (record {
-      is = λ u z. let e = (means-later n g).is u z in let d = q.is u z in cc;
-      there = λ u z. (means-later n g).there u z;
+      is = λ u z. let e = (means-later n g).is u z in let d = m.is u z in cc;
+      there = λ u z. ((means-later n g).there u z, m.there u z);
     })
     (extends-trans l g)
+
+pub new_tmp-found : {a m i b : State} {n : ℕ} {o : Option ℕ} → Took (k.Word w.Tmp) a m → Used m n i → FoundIndex i o b
+    → FoundNew a (right_row.NewTmp n o) b
+new_tmp-found (took i h) (used {source = source} {t = t} j n l) (found x r m g) =
+    found (new_tmp (text source t) x) (new_temporary h j r)
+    (record {
+      is = λ u z. let e = (means-later n g).is u z in let d = m.is u z in cc;
+      there = λ u z. ((means-later n g).there u z, m.there u z);
+    })
+    (extends-trans l g)
+
+pub new_iso-found : {a b c d e f : State} {n : ℕ} {o : Option ℕ} {x : Manager} → Took (k.Word w.Iso) a b → Used b n c → FoundIndex c o d
+    → Took (k.Word w.In) d e → FoundManager e x f → FoundNew a (right_row.NewIso n o x) f
+new_iso-found (took i h) (used {source = source} {t = t} j n l) (found x r m g) (took i' f) (found y r' q g') =
+    let later = extends-trans g g' in
+    found (new_iso (text source t) x y) (new_region h j r f r')
+    (record {
+      is = λ u z. let e = (means-later n later).is u z in let d = (means-later m g').is u z in let c = q.is u z in cc;
+      there = λ u z. ((means-later n later).there u z, (means-later m g').there u z);
+    })
+    (extends-trans l later)

@@ -1,6 +1,6 @@
 -- Statements are read by their rows.
-use Rattle.std.proofs.Common.{◌≡◌, ◌≢◌, Bool, true, false, ℕ, ◌<◌, List, [], ◌∷◌, ◌++◌, map, length, All, Option, Some, None, refl, sym, ◌∙◌}
-use Rattle.std.proofs.Common.{ap, subst, arith}
+use Rattle.std.proofs.Common.{◌≡◌, ◌≢◌, Bool, true, false, ℕ, ◌<◌, List, [], ◌∷◌, ◌++◌, map, length, All, Option, Some, None, option_map, IfSome}
+use Rattle.std.proofs.Common.{refl, sym, ◌∙◌, ap, subst, arith}
 use Rattle.rg_base.specs.declared.words.Keyword.TheVariants as w
 use Rattle.rg_base.specs.declared.words.Sign.TheVariants as s
 use Rattle.rg_base.specs.declared.token.Kind.{Kind}
@@ -15,20 +15,22 @@ use Rattle.rg_tree.specs.declared.rows.Right as row_right
 use Rattle.rg_tree.specs.declared.rows.StmtKind as row_kind
 use Rattle.rg_tree.specs.declared.rows.StmtKind.TheVariants as kind_row
 use Rattle.rg_tree.specs.Counts.{no_signs}
-use Rattle.rg_tree.specs.Tree.{Stmt, stmt, declare, assign, call, swap, branch, while, enter, print, collect, return, Block, empty, then, no_else}
-use Rattle.rg_tree.specs.Tree.{otherwise}
+use Rattle.rg_tree.specs.Tree.{Path, Expr, Right, Stmt, stmt, declare, call, swap, branch, while, enter, print, collect, return, Block, empty, then}
+use Rattle.rg_tree.specs.Tree.{no_else, otherwise}
 use Rattle.rg_tree.specs.Forms as form
 use Rattle.rg_tree.specs.Phrases.{Symbol, word, mark, name, local_name, the}
 use Rattle.rg_tree.specs.Phrases as p
-use Rattle.rg_tree.specs.Grammar.{Reads, text, block_row, no_stmts, more_stmts, let_row, assign_row, call_row, swap_row, if_row, while_row, enter_row}
-use Rattle.rg_tree.specs.Grammar.{print_row, collect_row, return_row, else_row, else_none}
+use Rattle.rg_tree.specs.Grammar.{Reads, text, assigned, block_row, no_stmts, more_stmts, let_row, assign_row, call_row, swap_row, if_row, while_row}
+use Rattle.rg_tree.specs.Grammar.{enter_row, giving_row, no_giving, print_row, collect_row, return_row, else_row, else_none}
 use Rattle.rg_tree.specs.Stuck.{Stops, no_row, by_row, another, line_at}
 use Rattle.rg_tree.proofs.Stopping.{Stops-unique}
 use Rattle.rg_base.specs.declared.fault.Code.{Code}
 use Rattle.rg_base.specs.declared.fault.Code.TheVariants.{Syntax}
 use Rattle.rg_parse.specs.declared.reader.halt.Halt.{Halt}
 use Rattle.rg_parse.specs.declared.reader.halt.Halt.TheVariants as halt
-use Rattle.rg_tree.specs.Rows.RowTrees.{stmt_at, stmt_of, block_over}
+use Rattle.rg_tree.specs.Rows.Tables.{Tables}
+use Rattle.rg_tree.specs.Rows.RowTrees.{path_of, expr_at, right_of, kind_over, stmt_at, stmt_of, block_over}
+use Rattle.rg_tree.specs.Rows.RowsExist.{IsPathIn, IsExprNumber, IsRightIn, IsKindIn}
 use Rattle.rg_tree.specs.Table.{next, row}
 use Rattle.rg_tree.specs.Adds.{Means}
 use Rattle.rg_tree.specs.Rows.RowsExist.{IsStmtNumber}
@@ -38,7 +40,7 @@ use Rattle.rg_parse.specs.declared.reader.starts.StmtStart.{StmtStart}
 use Rattle.rg_parse.specs.declared.reader.starts.StmtStart.TheVariants as start
 use Rattle.std.proofs.lemmas.Bool.{false≢true}
 use Rattle.rg_parse.specs.Inner.Readings.{FoundKind, FoundStmt, FoundBlock, FoundStmts, FoundElse, FoundPath, FoundType, FoundRight, FoundCall}
-use Rattle.rg_parse.specs.Inner.Readings.{FoundExpr}
+use Rattle.rg_parse.specs.Inner.Readings.{FoundExpr, FoundIndex, FoundGiving, set_row}
 use Rattle.rg_parse.specs.Inner.Steps.{State, Took, took, took_brace, Used, used, Declared, declared, Found, found, Kept, kept, Reset, reset}
 use Rattle.rg_parse.specs.Inner.Steps.{Halts}
 use Rattle.rg_parse.proofs.Growing.{extends-same, extends-trans, means-later}
@@ -49,12 +51,12 @@ use Rattle.rg_parse.proofs.Loops.{st, Along, along, means-nil, means-push}
 
 abbrev stmt_row : StmtStart → Option (List Symbol)
 stmt_row start.Let = Some (word w.Let ∷ local_name ∷ mark s.Colon ∷ the p.Type' ∷ mark s.Assign ∷ the p.Right ∷ mark s.Semicolon ∷ [])
-stmt_row start.Assign = Some (the p.Path ∷ mark s.Assign ∷ the p.Right ∷ mark s.Semicolon ∷ [])
+stmt_row start.Assign = Some (the p.Path ∷ the p.At ∷ mark s.Assign ∷ the p.Right ∷ mark s.Semicolon ∷ [])
 stmt_row start.Call = Some (the p.Call ∷ mark s.Semicolon ∷ [])
 stmt_row start.Swap = Some (word w.Swap ∷ name ∷ mark s.Comma ∷ the p.Path ∷ mark s.Semicolon ∷ [])
 stmt_row start.If = Some (word w.If ∷ the p.Expr ∷ the p.Block ∷ the p.Else ∷ [])
 stmt_row start.While = Some (word w.While ∷ the p.Expr ∷ the p.Block ∷ [])
-stmt_row start.Enter = Some (word w.Enter ∷ the p.Path ∷ word w.As ∷ local_name ∷ the p.Block ∷ [])
+stmt_row start.Enter = Some (word w.Enter ∷ the p.Path ∷ word w.As ∷ local_name ∷ the p.Block ∷ the p.Giving ∷ [])
 stmt_row start.Print = Some (word w.Print ∷ the p.Expr ∷ mark s.Semicolon ∷ [])
 stmt_row start.Collect = Some (word w.Collect ∷ mark s.Semicolon ∷ [])
 stmt_row start.Return = Some (word w.Return ∷ the p.Expr ∷ mark s.Semicolon ∷ [])
@@ -83,7 +85,7 @@ pub let-row : (o : Option Kind) → stmt_start o ≡ start.Let
 let-row o e = stmt-rows o ∙ ap stmt_row e
 
 pub assign-row : (o : Option Kind) → stmt_start o ≡ start.Assign
-    → row p.Stmt o ≡ Some (the p.Path ∷ mark s.Assign ∷ the p.Right ∷ mark s.Semicolon ∷ [])
+    → row p.Stmt o ≡ Some (the p.Path ∷ the p.At ∷ mark s.Assign ∷ the p.Right ∷ mark s.Semicolon ∷ [])
 assign-row o e = stmt-rows o ∙ ap stmt_row e
 
 pub call-row : (o : Option Kind) → stmt_start o ≡ start.Call → row p.Stmt o ≡ Some (the p.Call ∷ mark s.Semicolon ∷ [])
@@ -100,7 +102,7 @@ pub while-row : (o : Option Kind) → stmt_start o ≡ start.While → row p.Stm
 while-row o e = stmt-rows o ∙ ap stmt_row e
 
 pub enter-row : (o : Option Kind) → stmt_start o ≡ start.Enter
-    → row p.Stmt o ≡ Some (word w.Enter ∷ the p.Path ∷ word w.As ∷ local_name ∷ the p.Block ∷ [])
+    → row p.Stmt o ≡ Some (word w.Enter ∷ the p.Path ∷ word w.As ∷ local_name ∷ the p.Block ∷ the p.Giving ∷ [])
 enter-row o e = stmt-rows o ∙ ap stmt_row e
 
 pub print-row : (o : Option Kind) → stmt_start o ≡ start.Print → row p.Stmt o ≡ Some (word w.Print ∷ the p.Expr ∷ mark s.Semicolon ∷ [])
@@ -145,17 +147,25 @@ let-found (took i1 h1) (declared {source = source} {t = t} h2 l2 n g2) (took i3 
     })
     (extends-trans g2 g46)
 
-pub assign-found : {a b c d e : State} {q : row_path.Path} {r : row_right.Right} → 0 < length a.rest → FoundPath a q b → Took (k.Mark s.Assign) b c
-    → FoundRight c r d
-    → Took (k.Mark s.Semicolon) d e → FoundKind a (kind_row.Set q r) e
-assign-found l (found {ts = []} x r1 m1 g1) (took i2 h2) (found y r3 m3 g3) (took i4 h4) = absurd (omega arith)
-assign-found l (found {ts = t ∷ ts} x r1 m1 g1) (took i2 h2) (found y r3 m3 g3) (took i4 h4) =
-    found (assign x y) (assign_row r1 h2 r3 h4)
-    (record {
-      is = λ u z. let e1 = (means-later m1 g3).is u z in let e3 = m3.is u z in cc;
-      there = λ u z. ((means-later m1 g3).there u z, m3.there u z);
-    })
-    (extends-trans g1 g3)
+-- the row of an assignment stands for it
+set-means : {t : Tables} {q : row_path.Path} {x : Path} {y : Option Expr} {r : row_right.Right} {v : Right} (o : Option ℕ)
+    → Means path_of IsPathIn t q x → Means (λ u. option_map (expr_at u)) (λ u o. IfSome o (IsExprNumber u)) t o y → Means right_of IsRightIn t r v
+    → Means (λ u. kind_over u (stmt_at u)) (λ u. IsKindIn u (length u.stmts)) t (set_row q o r) (assigned x y v)
+set-means None m n l = record {
+  is = λ u z. let e = m.is u z in let f = l.is u z in rw (← n.is u z) cc;
+  there = λ u z. (m.there u z, l.there u z);
+}
+set-means (Some i) m n l = record {
+  is = λ u z. let e = m.is u z in let f = l.is u z in rw (← n.is u z) cc;
+  there = λ u z. (m.there u z, n.there u z, l.there u z);
+}
+
+pub assign-found : {a b c d e f : State} {q : row_path.Path} {o : Option ℕ} {r : row_right.Right} → 0 < length a.rest → FoundPath a q b
+    → FoundIndex b o c → Took (k.Mark s.Assign) c d → FoundRight d r e → Took (k.Mark s.Semicolon) e f → FoundKind a (set_row q o r) f
+assign-found l (found {ts = []} x r1 m1 g1) (found o r2 m2 g2) (took i3 h3) (found y r4 m4 g4) (took i5 h5) = absurd (omega arith)
+assign-found {o = i} l (found {ts = t ∷ ts} x r1 m1 g1) (found o r2 m2 g2) (took i3 h3) (found y r4 m4 g4) (took i5 h5) =
+    let g24 = extends-trans g2 g4 in
+    found (assigned x o y) (assign_row r1 r2 h3 r4 h5) (set-means i (means-later m1 g24) (means-later m2 g4) m4) (extends-trans g1 g24)
 
 pub call-found : {a b c : State} {x : CallRow} → 0 < length a.rest → FoundCall a x b → Took (k.Mark s.Semicolon) b c
     → FoundKind a (kind_row.Call x) c
@@ -204,16 +214,35 @@ while-found (took i1 h1) (found x r2 m2 g2) (found y r3 m3 g3) =
     })
     (extends-trans g2 g3)
 
-pub enter-found : {a b c d e f : State} {q : row_path.Path} {n : ℕ} {y : Span} → Took (k.Word w.Enter) a b → FoundPath b q c
-    → Took (k.Word w.As) c d → Declared local_name d n e → FoundBlock e y f → FoundKind a (kind_row.Enter q n y) f
-enter-found (took i1 h1) (found x r2 m2 g2) (took i3 h3) (declared {source = source} {t = t} h4 l4 n g4) (found y r5 m5 g5) =
-    let g45 = extends-trans g4 g5 in
-    found (enter x (text source t) y) (enter_row h1 r2 h3 h4 l4 r5)
+pub enter-found : {a b c d e f g : State} {q : row_path.Path} {n : ℕ} {y : Span} {o : Option ℕ} → Took (k.Word w.Enter) a b → FoundPath b q c
+    → Took (k.Word w.As) c d → Declared local_name d n e → FoundBlock e y f → FoundGiving f o g → FoundKind a (kind_row.Enter q n y o) g
+enter-found (took i1 h1) (found x r2 m2 g2) (took i3 h3) (declared {source = source} {t = t} h4 l4 n g4) (found y r5 m5 g5) (found o r6 m6 g6) =
+    let g56 = extends-trans g5 g6 in
+    let g46 = extends-trans g4 g56 in
+    found (enter x (text source t) y o) (enter_row h1 r2 h3 h4 l4 r5 r6)
     (record {
-      is = λ u z. let e2 = (means-later m2 g45).is u z in let e4 = (means-later n g5).is u z in let e5 = m5.is u z in cc;
-      there = λ u z. ((means-later m2 g45).there u z, (means-later n g5).there u z, m5.there u z);
+      is =
+          λ u z.
+          let e2 = (means-later m2 g46).is u z in
+          let e4 = (means-later n g56).is u z in
+          let e5 = (means-later m5 g6).is u z in
+          let e6 = m6.is u z in
+          cc;
+      there = λ u z. ((means-later m2 g46).there u z, (means-later n g56).there u z, (means-later m5 g6).there u z, m6.there u z);
     })
-    (extends-trans g2 g45)
+    (extends-trans g2 g46)
+
+pub no_giving-found : (a : State) → next a.rest ≢ Some (k.Word w.Giving) → FoundGiving a None a
+no_giving-found a h =
+    found None (no_giving (no_giving-row (next a.rest) h)) (record { is = λ u z. refl; there = λ u z. tt }) (extends-same a.tables)
+  where
+    no_giving-row : (o : Option Kind) → o ≢ Some (k.Word w.Giving) → row p.Giving o ≡ Some []
+    no_giving-row (Some (k.Word w.Giving)) h = absurd (h refl)
+    no_giving-row _ h = refl
+
+pub giving-found : {a b c d : State} {n : ℕ} → Took (k.Word w.Giving) a b → Used b n c → Took (k.Mark s.Semicolon) c d → FoundGiving a (Some n) d
+giving-found (took i h) (used {source = source} {t = t} j n l) (took i' f) =
+    found (Some (text source t)) (giving_row h j f) (record { is = λ u z. ap Some (n.is u z); there = n.there }) l
 
 pub print-found : {a b c d : State} {x : ℕ} → Took (k.Word w.Print) a b → FoundExpr b x c → Took (k.Mark s.Semicolon) c d
     → FoundKind a (kind_row.Print x) d

@@ -23,8 +23,8 @@ use Rattle.rg_parse.specs.declared.reader.halt.Halt.TheVariants as halt
 use Rattle.rg_parse.specs.declared.reader.limits.Role.{Role}
 use Rattle.rg_parse.specs.declared.reader.limits.Role.TheVariants as role
 use Rattle.rg_parse.specs.Inner.Roles.{symbol_of}
-use Rattle.rg_parse.specs.Inner.Steps.{State, Halts, IsFirst, IsFree, settled, Took, took, took_brace, took_paren, Signed, signed, Used, used}
-use Rattle.rg_parse.specs.Inner.Steps.{Declared, declared, Extends}
+use Rattle.rg_parse.specs.Inner.Steps.{State, Halts, IsFirst, IsFree, settled, Took, took, took_brace, took_paren, took_bracket, Signed, signed, Used}
+use Rattle.rg_parse.specs.Inner.Steps.{used, Declared, declared, Extends}
 
 -- another token than the expected one
 pub halts-another : {y : Symbol} {x : Kind} {a : State} → expected y ≡ Some (Some x) → next a.rest ≢ Some x → Halts (y ∷ []) a (halt.At Syntax) a
@@ -60,8 +60,10 @@ took-behind : (x : Kind) {source : List ℕ} {t : Token} {ts : List Token} (c d 
     → Took x (record { source = source; rest = t ∷ ts; counts = c; tables = u }) (record { source = source; rest = ts; counts = d; tables = u })
 took-behind (k.Mark s.OpenBrace) c d e l = took_brace e l
 took-behind (k.Mark s.OpenParen) c d e l = took_paren e l
+took-behind (k.Mark s.OpenBracket) c d e l = took_bracket e l
 took-behind (k.Mark s.CloseBrace) c d e l = took-free (k.Mark s.CloseBrace) c d tt e cc
 took-behind (k.Mark s.CloseParen) c d e l = took-free (k.Mark s.CloseParen) c d tt e cc
+took-behind (k.Mark s.CloseBracket) c d e l = took-free (k.Mark s.CloseBracket) c d tt e cc
 took-behind (k.Word w.Def) c d e l = took-free (k.Word w.Def) c d tt e cc
 took-behind (k.Word w.Main) c d e l = took-free (k.Word w.Main) c d tt e cc
 took-behind x c d e l = took-free x c d tt e cc

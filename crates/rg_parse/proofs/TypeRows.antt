@@ -26,7 +26,7 @@ use Rattle.rg_parse.specs.Inner.Starts.{type_start}
 use Rattle.rg_parse.specs.declared.reader.starts.TypeStart.{TypeStart}
 use Rattle.rg_parse.specs.declared.reader.starts.TypeStart.TheVariants as type
 use Rattle.rg_parse.specs.Inner.Readings.{FoundCap, FoundManager, FoundType, FoundResult}
-use Rattle.rg_parse.specs.Inner.Steps.{State, Took, took, took_brace, took_paren, Used, used, found, settled, IsFree}
+use Rattle.rg_parse.specs.Inner.Steps.{State, Took, took, took_brace, took_paren, took_bracket, Used, used, found, settled, IsFree}
 use Rattle.rg_parse.proofs.Halting.{free-behind}
 
 -- a value that is its own tree
@@ -43,6 +43,7 @@ cap-found x v e (took {source = source} {t = t} {ts = ts} {c = c} {u = u} i h) =
     found v (subst (λ d. Reads source form.Cap c (t ∷ ts) v d ts) (sym (stays x c i (cap_of-behind x v c e))) r) (means-itself u v) (extends-same u)
 cap-found _ v e (took_brace h l) = cc
 cap-found _ v e (took_paren h l) = cc
+cap-found _ v e (took_bracket h l) = cc
 
 pub manager-found : {a b : State} (x : Kind) (v : Manager) → manager_of x ≡ Some v → Took x a b → FoundManager a v b
 manager-found x v e (took {source = source} {t = t} {ts = ts} {c = c} {u = u} i h) =
@@ -51,6 +52,7 @@ manager-found x v e (took {source = source} {t = t} {ts = ts} {c = c} {u = u} i 
     (extends-same u)
 manager-found _ v e (took_brace h l) = cc
 manager-found _ v e (took_paren h l) = cc
+manager-found _ v e (took_bracket h l) = cc
 
 -- no row holds
 

@@ -5,6 +5,7 @@ use Rattle.rg_base.specs.declared.limits.TheConstants.{FRAMES}
 use Rattle.rg_base.specs.declared.object.Seen.{Seen}
 use Rattle.rg_base.specs.declared.object.Label.{Label}
 use Rattle.rg_base.specs.declared.object.Place.{Place}
+use Rattle.rg_base.specs.declared.object.Place.TheVariants.{Var, Field}
 use Rattle.rg_base.specs.declared.value.Val.{Val}
 use Rattle.rg_base.specs.declared.value.Val.TheVariants.{Nil, Int, Bool as Truth, Obj}
 use Rattle.rg_base.specs.declared.outcome.Outcome.{Outcome}
@@ -13,20 +14,23 @@ use Rattle.rg_base.specs.declared.outcome.Trap.{Trap}
 use Rattle.rg_base.specs.declared.outcome.Trap.TheVariants.{Depth}
 use Rattle.rg_base.specs.Input.{NextNumber, found, malformed, at_end, next_number}
 use Rattle.rg_tree.specs.Tree.{no_else, otherwise, Else, Name, Variable, Expr, Call, Right, value, new, new_tmp, new_iso, freeze, merge, read, more}
-use Rattle.rg_tree.specs.Tree.{result_of, Stmt, stmt, StmtKind, declare, assign, call, swap, branch, while, enter, print, collect, return, Block}
-use Rattle.rg_tree.specs.Tree.{Method, Class}
-use Rattle.rg_rules.specs.Answers.{test}
+use Rattle.rg_tree.specs.Tree.{result_of, Path, Stmt, stmt, StmtKind, declare, assign, assign_element, call, swap, branch, while, enter, print}
+use Rattle.rg_tree.specs.Tree.{collect, return, Block, Method, Class}
+use Rattle.rg_rules.specs.Answers.{◌>>=◌, test}
 use Rattle.rg_rules.specs.Types.{class_named, method_named, type_of}
 use Rattle.rg_rules.specs.Paths.{all_but_last, last_field}
-use Rattle.rg_rules.specs.Items.{Item, Do, EndAt, LeaveAt, items_of}
+use Rattle.rg_rules.specs.Items.{Item, Do, EndAt, LeaveAt, LeaveGiving, leave_of, items_of}
 use Rattle.rg_rules.specs.Bodies.{method_end}
 use Rattle.rg_rules.specs.State.{Target, Declares, Assigns, Drops, Frame, Window, State, locals_of, value_in, put_local, add_local, deliver}
 use Rattle.rg_rules.specs.Values.{as_bool}
-use Rattle.rg_rules.specs.Evaluation.{object_at, path_value, values_of, field_value, with_field, follow_fields, computed}
+use Rattle.rg_rules.specs.Evaluation.{object_at, path_value, value_of, values_of, field_value, with_field, element_place, with_element}
+use Rattle.rg_rules.specs.Evaluation.{follow_fields, computed}
 use Rattle.rg_rules.specs.Regions.{region_of}
-use Rattle.rg_rules.specs.RightSides.{Use, new_object, made, with_region, frozen, merged, consumed, taken, called, step_call, with_right}
-use Rattle.rg_rules.specs.Steps.{put_field, step_assign, step_swap, begin_block, begin_else, with_window, entered, step_enter, step_return, step_kind}
-use Rattle.rg_rules.specs.Steps.{step_leave, step_item, step_first, Went, next}
+use Rattle.rg_rules.specs.RightSides.{Use, new_object, made, array_size, new_array, made_array, made_new, with_region, frozen, merged, consumed}
+use Rattle.rg_rules.specs.RightSides.{taken, called, step_call, with_right}
+use Rattle.rg_rules.specs.Steps.{put_field, put_element, step_assign, step_assign_element, step_swap, begin_block, begin_else, with_window}
+use Rattle.rg_rules.specs.Steps.{entered, step_enter, step_return, step_kind, step_leave, put_at, step_leave_giving, step_item, step_first}
+use Rattle.rg_rules.specs.Steps.{Went, next}
 use Rattle.rg_rules.proofs.Answers.{bind-ok, then-ok}
 use Rattle.rg_rules.proofs.Step.{computed-ok, stepped-went}
 use Rattle.rg_sound.proofs.Owners.Entrance.{items_of-append}
@@ -72,6 +76,18 @@ put_field-quiet classes (Obj a) x s v = by (slice_get s.store a)
     by None = (refl, refl)
     by (Some q) = (refl, refl)
 
+put_element-quiet : (at : Val) (k : ℕ) → IsQuiet (put_element at k)
+put_element-quiet Nil k s v = (refl, refl)
+put_element-quiet (Int z) k s v = (refl, refl)
+put_element-quiet (Truth b) k s v = (refl, refl)
+put_element-quiet (Obj a) k s v = by (slice_get s.store a)
+  where
+    by : (o : Option Seen) →
+        ((elim o as (λ p. State) [ None ↦ s | Some q ↦ record s { store = slice_set s.store a (with_element k v q) } ]).items ≡ s.items)
+        × ((elim o as (λ p. State) [ None ↦ s | Some q ↦ record s { store = slice_set s.store a (with_element k v q) } ]).output ≡ s.output)
+    by None = (refl, refl)
+    by (Some q) = (refl, refl)
+
 deliver-quiet : (to : Target) (s : State) (v : Val) → ((deliver to s v).items ≡ s.items) × ((deliver to s v).output ≡ s.output)
 deliver-quiet (Declares x t) s v = (refl, refl)
 deliver-quiet (Assigns x) s v = (refl, refl)
@@ -86,6 +102,26 @@ made-goes classes s u put quiet x label h = by (class_named classes x) h
         Goes s u
     by None h = goes-same s u h
     by (Some c) h = goes-put s (record s { store = s.store ++ new_object classes x label ∷ [] }) u put quiet (Obj (length s.store)) refl refl h
+
+made_array-goes : (classes : List Class) (s u : State) (put : Use) → IsQuiet put → (x : Name) (e : Expr) (label : Label) →
+    made_array classes s put x e label ≡ Ok u → Goes s u
+made_array-goes classes s u put quiet x e label h = by (class_named classes x) refl
+  where
+    by : (o : Option Class) → class_named classes x ≡ o → Goes s u
+    by None none = let is : made_array classes s put x e label ≡ Ok s = rw (made_array, none) refl in goes-same s u (ok-is _ _ (sym is ∙ h))
+    by (Some c) some =
+        let is : made_array classes s put x e label ≡ (do
+          v ← value_of classes s.store (locals_of s) e
+          n ← array_size v
+          Ok (put (record s { store = s.store ++ new_array classes x c n label ∷ [] }) (Obj (length s.store)))) = rw (made_array, some) refl in
+        let v = bind-ok (value_of classes s.store (locals_of s) e) _ u (sym is ∙ h) in
+        let n = bind-ok (array_size v.0) _ u v.2 in
+        goes-put s (record s { store = s.store ++ new_array classes x c n.0 label ∷ [] }) u put quiet (Obj (length s.store)) refl refl (ok-is _ _ n.2)
+
+made_new-goes : (classes : List Class) (s u : State) (put : Use) → IsQuiet put → (x : Name) (size : Option Expr) (label : Label) →
+    made_new classes s put x size label ≡ Ok u → Goes s u
+made_new-goes classes s u put quiet x None label h = made-goes classes s u put quiet x label (ok-is _ _ h)
+made_new-goes classes s u put quiet x (Some e) label h = made_array-goes classes s u put quiet x e label h
 
 consumed-goes : (s u : State) (put : Use) → IsQuiet put → (y : Variable) (after : Option State) →
     IfSome after (λ t. (t.items ≡ s.items) × (t.output ≡ s.output)) → consumed s put y after ≡ u → Goes s u
@@ -128,10 +164,10 @@ with_right-goes classes s u to put quiet (value e) h =
     let done = bind-ok (computed classes s e) _ u h in
     let whole = computed-ok classes s e done.0 done.1 in
     goes-put s done.0.0 u put quiet done.0.1 (ap (λ q. q.items) whole.state) (ap (λ q. q.output) whole.state) (ok-is _ _ done.2)
-with_right-goes classes s u to put quiet (new x) h = made-goes classes s u put quiet x _ (ok-is _ _ h)
-with_right-goes classes s u to put quiet (new_tmp x) h = made-goes classes s u put quiet x _ (ok-is _ _ h)
-with_right-goes classes s u to put quiet (new_iso x m) h =
-    made-goes classes s u (with_region m put) (λ t v. quiet (record t { managers = t.managers ++ m ∷ [] }) v) x _ (ok-is _ _ h)
+with_right-goes classes s u to put quiet (new x size) h = made_new-goes classes s u put quiet x size _ h
+with_right-goes classes s u to put quiet (new_tmp x size) h = made_new-goes classes s u put quiet x size _ h
+with_right-goes classes s u to put quiet (new_iso x size m) h =
+    made_new-goes classes s u (with_region m put) (λ t v. quiet (record t { managers = t.managers ++ m ∷ [] }) v) x size _ h
 with_right-goes classes s u to put quiet (freeze y) h =
     let o = bind-ok (object_at s.store (value_in (locals_of s) (Some y))) _ u h in
     consumed-goes s u put quiet (Some y) _ (same-behind s (frozen classes s) (λ r. (refl, refl)) (region_of o.0.label)) (ok-is _ _ o.2)
@@ -150,6 +186,15 @@ step_assign-goes classes s u x (f ∷ fs) r h =
     let o = then-ok (object_at s.store at.0) _ u at.2 in
     with_right-goes classes s u Drops (put_field classes at.0 (last_field f fs)) (put_field-quiet classes at.0 (last_field f fs)) r o.2
 
+step_assign_element-goes : (classes : List Class) (s u : State) (q : Path) (e : Expr) (r : Right) →
+    step_assign_element classes s q e r ≡ Ok u → Goes s u
+step_assign_element-goes classes s u q e r h =
+    let at = bind-ok (path_value classes s.store (locals_of s) q) _ u h in
+    let o = bind-ok (object_at s.store at.0) _ u at.2 in
+    let i = bind-ok (value_of classes s.store (locals_of s) e) _ u o.2 in
+    let k = bind-ok (element_place o.0 i.0) _ u i.2 in
+    with_right-goes classes s u Drops (put_element at.0 k.0) (put_element-quiet at.0 k.0) r k.2
+
 step_swap-goes : (classes : List Class) (s u : State) (y x : Variable) (fields : List Name) → step_swap classes s y x fields ≡ Ok u → Goes s u
 step_swap-goes classes s u y x [] h = goes-same s u (ok-is _ _ h)
 step_swap-goes classes s u y x (f ∷ fs) h =
@@ -160,27 +205,28 @@ step_swap-goes classes s u y x (f ∷ fs) h =
     goes-put s (put_field classes at.0 (last_field f fs) s v) u (put_local y) (λ t w. (refl, refl))
     (field_value classes o.0 (last_field f fs)) put.0 put.1 (ok-is _ _ o.2)
 
-with_window-goes : (s u : State) (owner : Place) (z : Name) (body : Block) (bridge : Val) (class : ℕ) (region : Option ℕ) →
-    with_window s owner z body bridge class region ≡ u → Goes s u
-with_window-goes s u owner z body bridge class None h = goes-same s u h
-with_window-goes s u owner z body bridge class (Some r) h = record {
-  front = items_of body (LeaveAt (length (locals_of s)) ∷ []);
-  items = ap (λ q. q.items) (sym h) ∙ items_of-append body (LeaveAt (length (locals_of s)) ∷ []) s.items;
+with_window-goes : (s u : State) (owner : Place) (z : Name) (body : Block) (after : ℕ → Item) (bridge : Val) (class : ℕ) (region : Option ℕ) →
+    with_window s owner z body after bridge class region ≡ u → Goes s u
+with_window-goes s u owner z body after bridge class None h = goes-same s u h
+with_window-goes s u owner z body after bridge class (Some r) h = record {
+  front = items_of body (after (length (locals_of s)) ∷ []);
+  items = ap (λ q. q.items) (sym h) ∙ items_of-append body (after (length (locals_of s)) ∷ []) s.items;
   output = ap (λ q. q.output) (sym h);
 }
 
-entered-goes : (s u : State) (owner : Place) (z : Name) (body : Block) (bridge : Val) → entered s owner z body bridge ≡ Ok u → Goes s u
-entered-goes s u owner z body bridge h =
+entered-goes : (s u : State) (owner : Place) (z : Name) (body : Block) (after : ℕ → Item) (bridge : Val) →
+    entered s owner z body after bridge ≡ Ok u → Goes s u
+entered-goes s u owner z body after bridge h =
     let o = bind-ok (object_at s.store bridge) _ u h in
-    with_window-goes s u owner z body bridge o.0.class (region_of o.0.label) (ok-is _ _ o.2)
+    with_window-goes s u owner z body after bridge o.0.class (region_of o.0.label) (ok-is _ _ o.2)
 
-step_enter-goes : (classes : List Class) (s u : State) (x : Variable) (fields : List Name) (z : Name) (body : Block) →
-    step_enter classes s x fields z body ≡ Ok u → Goes s u
-step_enter-goes classes s u x [] z body h = entered-goes s u _ z body (value_in (locals_of s) x) h
-step_enter-goes classes s u x (f ∷ fs) z body h =
+step_enter-goes : (classes : List Class) (s u : State) (x : Variable) (fields : List Name) (z : Name) (body : Block) (after : ℕ → Item) →
+    step_enter classes s x fields z body after ≡ Ok u → Goes s u
+step_enter-goes classes s u x [] z body after h = entered-goes s u _ z body after (value_in (locals_of s) x) h
+step_enter-goes classes s u x (f ∷ fs) z body after h =
     let at = bind-ok (follow_fields classes s.store (value_in (locals_of s) x) (all_but_last f fs)) _ u h in
     let o = bind-ok (object_at s.store at.0) _ u at.2 in
-    entered-goes s u _ z body (field_value classes o.0 (last_field f fs)) o.2
+    entered-goes s u _ z body after (field_value classes o.0 (last_field f fs)) o.2
 
 step_return-goes : (classes : List Class) (s u : State) (e : Expr) (frames : List Frame) → step_return classes s e frames ≡ Ok u → Goes s u
 step_return-goes classes s u e [] h = goes-same s u (ok-is _ _ h)
@@ -215,6 +261,7 @@ step_kind-goes : (classes : List Class) (s u : State) (line : ℕ) (k : StmtKind
 step_kind-goes classes s u line (declare x t r) q h =
     with_right-goes classes s u (Declares x (type_of classes t)) (add_local (Some x) (type_of classes t)) (λ a v. (refl, refl)) r h
 step_kind-goes classes s u line (assign p r) q h = step_assign-goes classes s u p.base p.fields r h
+step_kind-goes classes s u line (assign_element p e r) q h = step_assign_element-goes classes s u p e r h
 step_kind-goes classes s u line (call c) q h = step_call-goes classes s u Drops c h
 step_kind-goes classes s u line (swap y p) q h = step_swap-goes classes s u (Some y) p.base p.fields h
 step_kind-goes classes s u line (branch e first other) q h =
@@ -236,7 +283,7 @@ step_kind-goes classes s u line (while e body) q h =
       output = output;
     } in
     goes-to s _ u (goes-if (as_bool done.0.1) s _ _ turn (record { front = []; items = items; output = output })) (ok-is _ _ done.2)
-step_kind-goes classes s u line (enter p z body) q h = step_enter-goes classes s u p.base p.fields z body h
+step_kind-goes classes s u line (enter p z body giving) q h = step_enter-goes classes s u p.base p.fields z body (λ kept. leave_of line kept giving) h
 step_kind-goes classes s u line (print e) q h = absurd (cc)
 step_kind-goes classes s u line collect q h = goes-same s u (ok-is _ _ h)
 step_kind-goes classes s u line (return e) q h = step_return-goes classes s u e s.frames h
@@ -264,11 +311,30 @@ leave-keeps k s [] = (refl, refl)
 leave-keeps k s (w ∷ []) = (refl, refl)
 leave-keeps k s (w ∷ v ∷ ws) = (refl, refl)
 
+put_at-quiet : (place : Option Place) → IsQuiet (put_at place)
+put_at-quiet None s v = (refl, refl)
+put_at-quiet (Some (Var n i)) s v = (refl, refl)
+put_at-quiet (Some (Field a k)) s v = put_element-quiet (Obj a) k s v
+
+leave_giving-keeps : (k : ℕ) (x : Name) (s u : State) (ws : List Window) → step_leave_giving k x s ws ≡ Ok u →
+    (u.items ≡ s.items) × (u.output ≡ s.output)
+leave_giving-keeps k x s u [] h = let e = ok-is s u h in (ap (λ q. q.items) (sym e), ap (λ q. q.output) (sym e))
+leave_giving-keeps k x s u (w ∷ []) h = let e = ok-is s u h in (ap (λ q. q.items) (sym e), ap (λ q. q.output) (sym e))
+leave_giving-keeps k x s u (w ∷ v ∷ ws) h =
+    let given = value_in (locals_of s) (Some x) in
+    let left = step_leave k s (w ∷ v ∷ ws) in
+    let c = then-ok (object_at s.store given) _ u h in
+    let put = put_at-quiet w.owner left given in
+    let e = ok-is (put_at w.owner left given) u c.2 in
+    (ap (λ q. q.items) (sym e) ∙ put.0, ap (λ q. q.output) (sym e) ∙ put.1)
+
 -- the step of a thing to do that prints nothing leaves the output
 step_item-output : (classes : List Class) (s u : State) (i : Item) → item_prints i ≡ false → step_item classes s i ≡ Went u → u.output ≡ s.output
 step_item-output classes s u (Do (stmt line k)) q h = (step_kind-goes classes s u line k q (stepped-went line (step_kind classes s line k) u
     h)).output
 step_item-output classes s u (LeaveAt k) q h = ap (λ a. a.output) (sym (went_is _ _ h)) ∙ (leave-keeps k s s.windows).1
+step_item-output classes s u (LeaveGiving line k x) q h =
+    (leave_giving-keeps k x s u s.windows (stepped-went line (step_leave_giving k x s s.windows) u h)).1
 step_item-output classes s u _ q h = ap (λ a. a.output) (sym (went_is _ _ h))
 
 append-some : (front rest : List Item) (j : Item) → front ++ j ∷ rest ≢ []
@@ -304,6 +370,9 @@ step_item-ends classes s u (Do (stmt line k)) rest e ends h =
     (left-behind u rest (stmt line k) ends (b.0, b.1 ∙ ap (λ q. b.0 ++ q) e)).1
 step_item-ends classes s u (LeaveAt k) rest e ends h =
     ends-same u (LeaveAt k) rest ends (ap (λ a. a.items) (sym (went_is _ _ h)) ∙ (leave-keeps k s s.windows).0 ∙ e)
+step_item-ends classes s u (LeaveGiving line k x) rest e ends h =
+    ends-same u (LeaveGiving line k x) rest ends ((leave_giving-keeps k x s u s.windows (stepped-went line (step_leave_giving k x s s.windows) u h)).0
+    ∙ e)
 step_item-ends classes s u i rest e ends h = ends-same u i rest ends (ap (λ a. a.items) (sym (went_is _ _ h)) ∙ e)
 
 no-longer : (xs : List Val) (v : Val) → xs ≡ xs ++ v ∷ [] → ⊥

@@ -2,5 +2,6 @@
 pub mod Local
 pub mod Item
 pub mod Frame
+pub mod Numbered
 pub mod Fit
 pub mod Machine

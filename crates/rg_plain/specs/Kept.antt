@@ -6,8 +6,8 @@ use Rattle.rg_base.specs.declared.value.Val.{Val}
 use Rattle.rg_base.specs.declared.words.Manager.{Manager}
 use Rattle.rg_tree.specs.Rows.Tables.{Tables, name_at}
 use Rattle.rg_tree.specs.Rows.RowTrees.{block_of}
-use Rattle.rg_tree.specs.Rows.RowsExist.{IsBlockIn}
-use Rattle.rg_rules.specs.Items.{Item, EndAt, LeaveAt, Back, items_of}
+use Rattle.rg_tree.specs.Rows.RowsExist.{IsNameIn, IsBlockIn}
+use Rattle.rg_rules.specs.Items.{Item, EndAt, LeaveAt, LeaveGiving, Back, items_of}
 use Rattle.rg_rules.specs.State.{Target, Declares, Assigns, Drops, Frame, Window, State}
 use Rattle.rg_store.specs.Shown.{store_of}
 use Rattle.rg_plain.specs.declared.state.rows.LocalRow.{LocalRow}
@@ -74,6 +74,7 @@ abbrev pub put_row : Tables → ItemRow → List Item → List Item
 put_row t (row.Rest s) below = items_of (block_of t s) below
 put_row t (row.EndAt k) below = EndAt k ∷ below
 put_row t (row.LeaveAt k) below = LeaveAt k ∷ below
+put_row t (row.LeaveGiving line k w) below = LeaveGiving line k (name_at t w) ∷ below
 put_row t row.Back below = Back ∷ below
 
 -- what rows put in front of other items
@@ -103,6 +104,7 @@ abbrev pub ItemFits : Tables → ItemRow → Type 0
 ItemFits t (row.Rest s) = (s.from < s.to) × IsBlockIn t s
 ItemFits t (row.EndAt k) = Unit {0}
 ItemFits t (row.LeaveAt k) = Unit {0}
+ItemFits t (row.LeaveGiving line k w) = IsNameIn t w
 ItemFits t row.Back = Unit {0}
 
 -- each row does

@@ -2,8 +2,8 @@
 use Rattle.std.specs.Prelude.{◌≡◌, ◌≢◌, ◌⊎◌, Bool as Truth, true, false, if◌then◌else◌, List, [], ◌∷◌, ◌++◌}
 use Rattle.rg_base.specs.declared.outcome.Outcome.{Outcome}
 use Rattle.rg_base.specs.declared.outcome.Outcome.TheVariants as outcome
-use Rattle.rg_tree.specs.Tree.{stmt, StmtKind, declare, assign, call, swap, branch, while, enter, print, collect, return}
-use Rattle.rg_rules.specs.Items.{Item, Do, EndAt, LeaveAt, Back}
+use Rattle.rg_tree.specs.Tree.{stmt, StmtKind, declare, assign, assign_element, call, swap, branch, while, enter, print, collect, return}
+use Rattle.rg_rules.specs.Items.{Item, Do, EndAt, LeaveAt, LeaveGiving, Back}
 use Rattle.rg_rules.specs.State.{State}
 use Rattle.rg_rules.specs.Steps.{Stepped, Went, Trapped}
 
@@ -45,11 +45,12 @@ settled_outcome outcome.Memory empty = outcome.Memory
 abbrev pub prints : StmtKind → Truth
 prints (declare x t r) = false
 prints (assign p r) = false
+prints (assign_element p e r) = false
 prints (call c) = false
 prints (swap y p) = false
 prints (branch e first other) = false
 prints (while e body) = false
-prints (enter p z body) = false
+prints (enter p z body giving) = false
 prints (print e) = true
 prints collect = false
 prints (return e) = false
@@ -59,6 +60,7 @@ abbrev pub item_prints : Item → Truth
 item_prints (Do (stmt line k)) = prints k
 item_prints (EndAt k) = false
 item_prints (LeaveAt k) = false
+item_prints (LeaveGiving line k w) = false
 item_prints Back = false
 
 -- whether the first thing to do prints

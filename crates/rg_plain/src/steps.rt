@@ -6,8 +6,10 @@ mod call;
 mod enter;
 mod frames;
 mod input;
+mod leave;
 mod move_;
 mod new;
+mod owners;
 mod print;
 pub(crate) mod refusal;
 mod return_;
@@ -35,8 +37,9 @@ use crate::state::rows::ItemRow;
 use crate::steps::assign::right_step;
 use crate::steps::branch::{branch_step, end_step, while_step};
 use crate::steps::call::call_step;
-use crate::steps::enter::{enter_step, leave_step};
+use crate::steps::enter::{Entrance, enter_step};
 use crate::steps::input::{Wanted, input_step};
+use crate::steps::leave::{leave_giving_step, leave_step};
 use crate::steps::print::print_step;
 use crate::steps::refusal::{Refusal, outcome, printed};
 use crate::steps::return_::{back_step, return_step};
@@ -76,13 +79,30 @@ fn kind_step(
             let left = Left::Set(path);
             right_step(alloc, book, m, Assignment { at, left }, right)
         }
+        StmtKind::SetAt { path, index, right } => {
+            let left = Left::SetAt { path, index };
+            right_step(alloc, book, m, Assignment { at, left }, right)
+        }
         StmtKind::If { test, yes, no } => branch_step(book, m, at, test, yes, no),
         StmtKind::While { test, body } => while_step(book, m, at, test, body),
         StmtKind::Print(_) => unreachable!(),
         StmtKind::Collect => collect_step(book, m, at),
         StmtKind::Call(row) => call_step(alloc, book, m, at, row),
         StmtKind::Swap { name, path } => swap_step(book, m, at, name, path),
-        StmtKind::Enter { path, name, body } => enter_step(book, m, at, path, name, body),
+        StmtKind::Enter {
+            path,
+            name,
+            body,
+            giving,
+        } => {
+            let entrance = Entrance {
+                line: at.line,
+                path,
+                name,
+                giving,
+            };
+            enter_step(book, m, at, entrance, body)
+        }
         StmtKind::Return(e) => return_step(book, m, at, e),
     }
 }
@@ -147,6 +167,9 @@ fn row_step<S: Source>(
         ItemRow::LeaveAt(kept) => {
             leave_step(book, m, kept);
             Outcome::Running
+        }
+        ItemRow::LeaveGiving { line, kept, name } => {
+            outcome(leave_giving_step(book, m, line, kept, name), line)
         }
         ItemRow::Back => {
             back_step(book, m);

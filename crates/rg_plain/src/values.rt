@@ -2,6 +2,7 @@
 //! (docs/language.md, "Steps").
 
 pub(crate) mod arguments;
+pub(crate) mod elements;
 pub(crate) mod expressions;
 pub(crate) mod methods;
 pub(crate) mod paths;

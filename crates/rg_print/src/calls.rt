@@ -1,13 +1,15 @@
 //! Calls and right sides (docs/language.md, "Canonical text").
 
-ghost use Rattle.std.specs.Prelude.{◌≡◌, ℕ, ◌<◌, ◌++◌, codes, length, map, OnOk};
+ghost use Rattle.std.specs.Prelude.{◌≡◌, ℕ, ◌<◌, ◌++◌, codes, length, map, option_map, OnOk};
+ghost use Rattle.std.specs.Prelude.{IfSome};
 ghost use Rattle.rg_tree.specs.Canonical.{arg_texts, call_text, joined, path_text, right_text};
+ghost use Rattle.rg_tree.specs.Canonical.{size_text};
 ghost use Rattle.rg_tree.specs.Rows.RowTrees.{call_of, expr_at, path_of, right_of};
 ghost use Rattle.rg_tree.specs.Rows.RowsExist.{IsCallIn, IsNameIn, IsPathIn, IsRightIn};
-ghost use Rattle.rg_tree.specs.Rows.RowsExist.{IsSpanBelow};
+ghost use Rattle.rg_tree.specs.Rows.RowsExist.{IsExprNumber, IsSpanBelow};
 ghost use Rattle.rg_tree.specs.Rows.Tables.{name_at, numbers_in};
 
-use crate::expressions::write_expr;
+use crate::expressions::{write_expr, write_index};
 use crate::names::{write_name, write_path};
 use crate::words::manager_bytes;
 use rg_base::{ByteList, Memory};
@@ -56,6 +58,21 @@ fn write_target(
     write_name(program, method, out)
 }
 
+// Appends the size of an array behind its class, where there is one.
+fn write_size(program: &Program, size: Option<u32>, out: &mut ByteList) -> Result<(), Memory>
+    requires { IfSome size (IsExprNumber program.now) }
+    ensures { OnOk result (out.new
+        ≡ out.old ++ size_text (option_map (expr_at program.now) size)) }
+{
+    match size {
+        None => Ok(()),
+        Some(e) => {
+            out.extend(b" ")?;
+            write_index(program, e, out)
+        }
+    }
+}
+
 /// Appends a right side.
 pub fn write_right(program: &Program, right: Right, out: &mut ByteList) -> Result<(), Memory>
     requires { IsRightIn program.now right }
@@ -63,17 +80,24 @@ pub fn write_right(program: &Program, right: Right, out: &mut ByteList) -> Resul
 {
     match right {
         Right::Expr(e) => write_expr(program, e, out),
-        Right::New { name } => {
+        Right::New { name, size } => {
             out.extend(b"new ")?;
-            write_name(program, name, out)
+            write_name(program, name, out)?;
+            write_size(program, size, out)
         }
-        Right::NewTmp { name } => {
+        Right::NewTmp { name, size } => {
             out.extend(b"new tmp ")?;
-            write_name(program, name, out)
+            write_name(program, name, out)?;
+            write_size(program, size, out)
         }
-        Right::NewIso { name, manager } => {
+        Right::NewIso {
+            name,
+            size,
+            manager,
+        } => {
             out.extend(b"new iso ")?;
             write_name(program, name, out)?;
+            write_size(program, size, out)?;
             out.extend(b" in ")?;
             out.extend(manager_bytes(manager))
         }

@@ -1,11 +1,12 @@
 //! Classes with their fields and methods (docs/language.md, "Canonical text").
 
-ghost use Rattle.std.specs.Prelude.{◌≡◌, ℕ, ◌<◌, ◌++◌, codes, length, map, option_map, OnOk};
-ghost use Rattle.std.specs.Prelude.{IfSome};
+ghost use Rattle.std.specs.Prelude.{◌≡◌, ℕ, ◌<◌, [], ◌++◌, codes, length, map, option_map, OnOk};
+ghost use Rattle.std.specs.Prelude.{Some, None, IfSome};
 ghost use Rattle.rg_base.specs.declared.words.Cap.{Cap};
 ghost use Rattle.rg_tree.specs.Canonical.{cap_text, class_text, joined, member_text, param_texts};
-ghost use Rattle.rg_tree.specs.Canonical.{result_text, line_of, ty_text};
-ghost use Rattle.rg_tree.specs.Rows.RowTrees.{class_of, member_at, param_at, type_of};
+ghost use Rattle.rg_tree.specs.Canonical.{rest_text, result_text, ty_text};
+ghost use Rattle.rg_tree.specs.Rows.RowTrees.{class_of, member_at, members_under, param_at};
+ghost use Rattle.rg_tree.specs.Rows.RowTrees.{type_of};
 ghost use Rattle.rg_tree.specs.Rows.RowsExist.{IsClassIn, IsNameIn, IsSpanBelow, IsTypeIn};
 ghost use Rattle.rg_tree.specs.Rows.Tables.{name_at, numbers_in};
 
@@ -23,11 +24,34 @@ pub fn write_class(program: &Program, class: ClassRow, out: &mut ByteList) -> Re
 {
     out.extend(class_bytes(class.is_tmp))?;
     write_name(program, class.name, out)?;
+    match class.element {
+        None => write_members(program, class.members, out),
+        Some(element) => write_element(program, element, out),
+    }
+}
+
+// Appends members in braces, each on lines of its own.
+fn write_members(program: &Program, members: Span, out: &mut ByteList) -> Result<(), Memory>
+    requires { IsSpanBelow program.now (length program.now.members) members }
+    ensures { OnOk result (out.new
+        ≡ out.old ++ rest_text None (members_under program.now None members)) }
+{
     out.extend(b" {\n")?;
-    for member in program.order(class.members) {
+    for member in program.order(members) {
         write_member(program, *member, out)?;
     }
     out.extend(b"}\n")
+}
+
+// Appends the type of the elements of an array class, in brackets.
+fn write_element(program: &Program, element: TypeRow, out: &mut ByteList) -> Result<(), Memory>
+    requires { IsTypeIn program.now element }
+    ensures { OnOk result (out.new
+        ≡ out.old ++ rest_text (Some (type_of program.now element)) []) }
+{
+    out.extend(b" [")?;
+    write_type(program, element, out)?;
+    out.extend(b"];\n")
 }
 
 // Appends the lines of a member.

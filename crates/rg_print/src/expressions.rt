@@ -1,7 +1,7 @@
 //! Expressions, with parentheses exactly where an operand can't stand bare (docs/language.md,
 //! "Canonical text").
 
-ghost use Rattle.std.specs.Prelude.{◌≡◌, ℕ, ◌<◌, ◌++◌, length, OnOk};
+ghost use Rattle.std.specs.Prelude.{◌≡◌, ℕ, ◌<◌, ◌++◌, codes, length, OnOk};
 ghost use Rattle.rg_tree.specs.Canonical.{expr_text, level, operand};
 ghost use Rattle.rg_tree.specs.Rows.RowTrees.{expr_at};
 ghost use Rattle.rg_tree.specs.Rows.RowsExist.{IsExprNumber};
@@ -19,7 +19,7 @@ fn level_of(program: &Program, e: u32) -> u8
 {
     match program.expr(e) {
         ExprRow::Int(_) | ExprRow::Bool(_) | ExprRow::Nil => 7,
-        ExprRow::Path(_) | ExprRow::IsNil(_) => 7,
+        ExprRow::Path(_) | ExprRow::IsNil(_) | ExprRow::Size(_) | ExprRow::At { .. } => 7,
         ExprRow::Neg(_) => 6,
         ExprRow::Not(_) => 2,
         ExprRow::Binary { op, .. } => own_level(op),
@@ -55,7 +55,27 @@ pub fn write_expr(program: &Program, e: u32, out: &mut ByteList) -> Result<(), M
             out.extend(op_bytes(op))?;
             write_operand(program, least_right(op), right, out)
         }
+        ExprRow::Size(path) => {
+            out.extend(b"size ")?;
+            write_path(program, path, out)
+        }
+        ExprRow::At { path, index } => {
+            write_path(program, path, out)?;
+            write_index(program, index, out)
+        }
     }
+}
+
+/// Appends an expression in brackets.
+#[cycle(expression)]
+pub fn write_index(program: &Program, e: u32, out: &mut ByteList) -> Result<(), Memory>
+    requires { IsExprNumber program.now e }
+    ensures { OnOk result (out.new
+        ≡ out.old ++ (codes "[" ++ expr_text (expr_at program.now e) ++ codes "]")) }
+{
+    out.extend(b"[")?;
+    write_expr(program, e, out)?;
+    out.extend(b"]")
 }
 
 /// Appends an operand, in parentheses where its level is below the least that stands bare.

@@ -1,8 +1,9 @@
 //! Statements and blocks, each on lines of their own (docs/language.md, "Canonical text").
 
-ghost use Rattle.std.specs.Prelude.{◌≡◌, ℕ, ◌<◌, suc, [], ◌∷◌, ◌++◌, codes, length, OnOk, IfSome};
-ghost use Rattle.rg_tree.specs.Canonical.{block_text, else_text, expr_text, line_of, path_text};
-ghost use Rattle.rg_tree.specs.Canonical.{right_text, stmt_text, ty_text};
+ghost use Rattle.std.specs.Prelude.{◌≡◌, ℕ, ◌<◌, suc, [], ◌∷◌, ◌++◌, codes, length, option_map};
+ghost use Rattle.std.specs.Prelude.{OnOk, IfSome};
+ghost use Rattle.rg_tree.specs.Canonical.{block_text, else_text, expr_text, giving_text, line_of};
+ghost use Rattle.rg_tree.specs.Canonical.{path_text, right_text, stmt_text, ty_text};
 ghost use Rattle.rg_tree.specs.Rows.RowTrees.{block_of, else_over, expr_at, path_of, right_of};
 ghost use Rattle.rg_tree.specs.Rows.RowTrees.{stmt_at, type_of};
 ghost use Rattle.rg_tree.specs.Rows.RowsExist.{IsBlockIn, IsExprNumber, IsNameIn, IsPathIn};
@@ -10,7 +11,7 @@ ghost use Rattle.rg_tree.specs.Rows.RowsExist.{IsRightIn, IsSpanBelow, IsTypeIn}
 ghost use Rattle.rg_tree.specs.Rows.Tables.{name_at};
 
 use crate::calls::{write_call, write_right};
-use crate::expressions::write_expr;
+use crate::expressions::{write_expr, write_index};
 use crate::lines::{close_block, deeper, indent};
 use crate::names::{write_name, write_path, write_type};
 use rg_base::{ByteList, Memory};
@@ -26,6 +27,7 @@ pub fn write_stmt(program: &Program, n: u32, depth: u32, out: &mut ByteList) -> 
     match program.stmt(n).kind {
         StmtKind::Let { name, ty, right } => write_let(program, name, ty, right, out),
         StmtKind::Set { path, right } => write_set(program, path, right, out),
+        StmtKind::SetAt { path, index, right } => { write_set_at(program, path, index, right, out) }
         StmtKind::Call(call) => {
             write_call(program, call, out)?;
             out.extend(b";\n")
@@ -43,10 +45,15 @@ pub fn write_stmt(program: &Program, n: u32, depth: u32, out: &mut ByteList) -> 
             write_block(program, body, depth, out)?;
             close_block(depth, out)
         }
-        StmtKind::Enter { path, name, body } => {
+        StmtKind::Enter {
+            path,
+            name,
+            body,
+            giving,
+        } => {
             write_enter(program, path, name, out)?;
             write_block(program, body, depth, out)?;
-            close_block(depth, out)
+            close_enter(program, giving, depth, out)
         }
         StmtKind::Print(e) => write_of(program, b"print ", e, out),
         StmtKind::Collect => out.extend(b"collect;\n"),
@@ -135,6 +142,28 @@ fn write_set(program: &Program, path: Path, right: Right, out: &mut ByteList) ->
     out.extend(b";\n")
 }
 
+// Appends an assignment to an element behind its indent.
+fn write_set_at(
+    program: &Program,
+    path: Path,
+    index: u32,
+    right: Right,
+    out: &mut ByteList,
+) -> Result<(), Memory>
+    requires path { IsPathIn program.now path }
+    requires index { IsExprNumber program.now index }
+    requires right { IsRightIn program.now right }
+    ensures { OnOk result (let t = program.now in out.new ≡ out.old
+        ++ (path_text (path_of t path) ++ codes "[" ++ expr_text (expr_at t index)
+        ++ codes "] = " ++ right_text (right_of t right) ++ codes ";\n")) }
+{
+    write_path(program, path, out)?;
+    write_index(program, index, out)?;
+    out.extend(b" = ")?;
+    write_right(program, right, out)?;
+    out.extend(b";\n")
+}
+
 // Appends a `swap` behind its indent.
 fn write_swap(program: &Program, name: u32, path: Path, out: &mut ByteList) -> Result<(), Memory>
     requires name { IsNameIn program.now name }
@@ -161,6 +190,28 @@ fn write_enter(program: &Program, path: Path, name: u32, out: &mut ByteList) -> 
     write_path(program, path, out)?;
     out.extend(b" as ")?;
     write_name(program, name, out)
+}
+
+// Appends the line that closes the block of an `enter`.
+fn close_enter(
+    program: &Program,
+    giving: Option<u32>,
+    depth: u32,
+    out: &mut ByteList,
+) -> Result<(), Memory>
+    requires { IfSome giving (IsNameIn program.now) }
+    ensures { OnOk result (let t = program.now in out.new ≡ out.old
+        ++ line_of depth (codes "}" ++ giving_text (option_map (name_at t) giving))) }
+{
+    match giving {
+        None => close_block(depth, out),
+        Some(name) => {
+            indent(depth, out)?;
+            out.extend(b"} giving ")?;
+            write_name(program, name, out)?;
+            out.extend(b";\n")
+        }
+    }
 }
 
 // Appends a statement that is a word and an expression, behind its indent.

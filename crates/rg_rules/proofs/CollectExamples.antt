@@ -1,6 +1,6 @@
 -- Programs that collect, and their runs, computed: what each prints, how it stands, its steps and the objects that it made; what the
 -- roots of the active region reach where it collects; and the live regions. Beside each text stands its tree.
-use Rattle.std.proofs.Common.{◌≡◌, refl, pos, true, [], ◌∷◌, codes}
+use Rattle.std.proofs.Common.{◌≡◌, refl, pos, true, [], ◌∷◌, codes, None}
 use Rattle.std.specs.Fmt.{digits}
 use Rattle.rg_base.specs.declared.words.Cap.TheVariants as cap
 use Rattle.rg_base.specs.declared.words.Manager.{Manager}
@@ -15,8 +15,8 @@ use Rattle.rg_rules.proofs.RunExamples.{counted, linked, nested}
 -- two objects that lead to each other
 abbrev cycle : Manager → Tree
 cycle m = program (linked ∷ []) m
-    (declare (codes "a") (to cap.Mut "N") (new (codes "N"))
-    ∷ declare (codes "b") (to cap.Mut "N") (new (codes "N"))
+    (declare (codes "a") (to cap.Mut "N") (new (codes "N") None)
+    ∷ declare (codes "b") (to cap.Mut "N") (new (codes "N") None)
     ∷ assign (dot "a" "next") (value (use_of "b"))
     ∷ assign (dot "b" "next") (value (use_of "a"))
     ∷ assign (var "a") (value nil) ∷ assign (var "b") (value nil) ∷ collect ∷ print (number (pos 1)) ∷ [])
@@ -48,9 +48,9 @@ cycle-kept = refl
 -- three objects in a row
 abbrev chain : Tree
 chain = program (linked ∷ []) manager.Count
-    (declare (codes "a") (to cap.Mut "N") (new (codes "N"))
-    ∷ assign (dot "a" "next") (new (codes "N"))
-    ∷ assign (dots "a" "next" "next") (new (codes "N")) ∷ assign (var "a") (value nil) ∷ collect ∷ [])
+    (declare (codes "a") (to cap.Mut "N") (new (codes "N") None)
+    ∷ assign (dot "a" "next") (new (codes "N") None)
+    ∷ assign (dots "a" "next" "next") (new (codes "N") None) ∷ assign (var "a") (value nil) ∷ collect ∷ [])
 
 chain-text : Source
     ("class N { v: int; next: mut N; }"
@@ -74,7 +74,7 @@ chain-kept = refl
 -- a paused variable keeps an object
 abbrev paused_keeps : Tree
 paused_keeps = program (linked ∷ []) manager.Trace
-    (declare (codes "a") (to cap.Mut "N") (new (codes "N"))
+    (declare (codes "a") (to cap.Mut "N") (new (codes "N") None)
     ∷ assign (dot "a" "v") (value (number (pos 5)))
     ∷ declare (codes "p") (to cap.Paused "N") (value (use_of "a"))
     ∷ assign (var "a") (value nil) ∷ collect ∷ print (path (dot "p" "v")) ∷ [])
@@ -99,12 +99,12 @@ abbrev temporary_keeps : Tree
 temporary_keeps = program
     (counted ∷ class_named "T" true (field_named "p" (to cap.Paused "N") ∷ []) ∷ [])
     manager.Arena
-    (declare (codes "y") (to cap.Iso "N") (new_iso (codes "N") manager.Trace)
+    (declare (codes "y") (to cap.Iso "N") (new_iso (codes "N") None manager.Trace)
     ∷ enter (var "y") (codes "z")
     (block
-    (declare (codes "t") (to cap.Tmp "T") (new_tmp (codes "T"))
-    ∷ assign (dot "t" "p") (new (codes "N")) ∷ collect ∷ print (path (dots "t" "p" "v")) ∷ []))
-    ∷ enter (var "y") (codes "z") (block (collect ∷ [])) ∷ [])
+    (declare (codes "t") (to cap.Tmp "T") (new_tmp (codes "T") None)
+    ∷ assign (dot "t" "p") (new (codes "N") None) ∷ collect ∷ print (path (dots "t" "p" "v")) ∷ [])) None
+    ∷ enter (var "y") (codes "z") (block (collect ∷ [])) None ∷ [])
 
 temporary_keeps-text : Source
     ("class N { v: int; }"
@@ -132,10 +132,10 @@ temporary_keeps-kept_later = refl
 -- a region hangs beneath a region, which hangs beneath an object of region 0
 abbrev hung : Tree
 hung = program (nested ∷ []) manager.Trace
-    (declare (codes "a") (to cap.Mut "N") (new (codes "N"))
-    ∷ declare (codes "y") (to cap.Iso "N") (new_iso (codes "N") manager.Arena)
-    ∷ declare (codes "w") (to cap.Iso "N") (new_iso (codes "N") manager.Count)
-    ∷ enter (var "y") (codes "z") (block (swap (codes "w") (dot "z" "down") ∷ []))
+    (declare (codes "a") (to cap.Mut "N") (new (codes "N") None)
+    ∷ declare (codes "y") (to cap.Iso "N") (new_iso (codes "N") None manager.Arena)
+    ∷ declare (codes "w") (to cap.Iso "N") (new_iso (codes "N") None manager.Count)
+    ∷ enter (var "y") (codes "z") (block (swap (codes "w") (dot "z" "down") ∷ [])) None
     ∷ swap (codes "y") (dot "a" "down") ∷ assign (var "a") (value nil) ∷ collect ∷ [])
 
 hung-text : Source
@@ -172,11 +172,11 @@ hung-alive = refl
 -- the objects of a region go to the active one
 abbrev merged : Tree
 merged = program (linked ∷ []) manager.Count
-    (declare (codes "y") (to cap.Iso "N") (new_iso (codes "N") manager.Trace)
+    (declare (codes "y") (to cap.Iso "N") (new_iso (codes "N") None manager.Trace)
     ∷ enter (var "y") (codes "z")
     (block
-    (declare (codes "a") (to cap.Mut "N") (new (codes "N"))
-    ∷ assign (dot "a" "next") (value (use_of "a")) ∷ assign (var "a") (value nil) ∷ collect ∷ []))
+    (declare (codes "a") (to cap.Mut "N") (new (codes "N") None)
+    ∷ assign (dot "a" "next") (value (use_of "a")) ∷ assign (var "a") (value nil) ∷ collect ∷ [])) None
     ∷ declare (codes "b") (to cap.Mut "N") (merge (codes "y")) ∷ assign (var "b") (value nil) ∷ collect ∷ [])
 
 merged-text : Source

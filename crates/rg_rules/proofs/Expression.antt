@@ -6,11 +6,11 @@ use Rattle.rg_base.specs.declared.words.Cap.TheVariants.{Mut, Tmp, Paused, Imm, 
 use Rattle.rg_base.specs.declared.ty.Ty.{Ty}
 use Rattle.rg_base.specs.declared.ty.Ty.TheVariants.{Int, Bool, Ref}
 use Rattle.rg_base.specs.declared.fault.Code.TheVariants.{Unknown, Mismatch}
-use Rattle.rg_tree.specs.Tree.{Name, Variable, Expr, number, boolean, nil, path, is_nil, neg, not, binary, Class}
+use Rattle.rg_tree.specs.Tree.{Name, Variable, Path, Expr, number, boolean, nil, path, is_nil, neg, not, binary, size, element, Class}
 use Rattle.rg_rules.specs.Answers.{◌>>=◌, ◌>>◌, test}
 use Rattle.rg_rules.specs.Capabilities.{below, is_iso, pause, comparable}
 use Rattle.rg_rules.specs.Environment.{Env, Entry, entry_of, at_depth, seen_type, available, used}
-use Rattle.rg_rules.specs.Paths.{walk}
+use Rattle.rg_rules.specs.Paths.{Looked, read_through, walk, walk_array}
 use Rattle.rg_rules.specs.Expressions.{Judged, against, nil_type, judge_path, judge_is_nil, Operators, arithmetic, order, equality, logic, among}
 use Rattle.rg_rules.specs.Expressions.{operand_type, agree, result_type, judge_expr}
 use Rattle.rg_rules.proofs.Answers.{bind-ok, then-ok, test-then}
@@ -55,6 +55,24 @@ binary-ok classes env w o a b j h =
     let m = test-then (agree o l.0.ty r.0.ty) _ _ j r.2 in
     record { l = l.0; r = r.0; operands = record { left = l.1; right = r.1; together = m.0 }; last = m.1 }
 
+-- an element that has a type: its array is walked to, and its index is a number
+pub record Element (classes : List Class) (env : Env) (w : Option Ty) (q : Path) (e : Expr) (j : Judged) : Type 0 where
+  pub array : Looked
+  pub ty : Ty
+  pub index : Judged
+  pub walked : walk_array classes env q.base q.fields ≡ Ok array
+  pub readable : read_through array.receiver array.ty ≡ Ok ty
+  pub judged : judge_expr classes env (Some Int) e ≡ Ok index
+  pub last : against w ty index.env ≡ Ok j
+
+pub element-ok : (classes : List Class) (env : Env) (w : Option Ty) (q : Path) (e : Expr) (j : Judged) →
+    judge_expr classes env w (element q e) ≡ Ok j → Element classes env w q e j
+element-ok classes env w q e j h =
+    let a = bind-ok (walk_array classes env q.base q.fields) _ j h in
+    let t = bind-ok (read_through a.0.receiver a.0.ty) _ j a.2 in
+    let i = bind-ok (judge_expr classes env (Some Int) e) _ j t.2 in
+    record { array = a.0; ty = t.0; index = i.0; walked = a.1; readable = t.1; judged = i.1; last = i.2 }
+
 -- an expression of which a type is expected has a type below it
 pub judge_expr-below : (classes : List Class) (env : Env) (w : Ty) (e : Expr) (j : Judged) →
     judge_expr classes env (Some w) e ≡ Ok j → below j.ty w ≡ true
@@ -71,6 +89,10 @@ judge_expr-below classes env w (not a) j h =
     let p = bind-ok (judge_expr classes env (Some Bool) a) _ j h in against-below w Bool p.0.env j p.2
 judge_expr-below classes env w (binary op a b) j h =
     let p = binary-ok classes env (Some w) (among op) a b j h in against-below w (result_type (among op)) p.r.env j p.last
+judge_expr-below classes env w (size q) j h =
+    let p = then-ok (walk_array classes env q.base q.fields) _ j h in against-below w Int env j p.2
+judge_expr-below classes env w (element q e) j h =
+    let p = element-ok classes env (Some w) q e j h in against-below w p.ty p.index.env j p.last
 
 and_second : (a b : Truth) → a && b ≡ true → b ≡ true
 and_second true b h = h
@@ -91,6 +113,10 @@ below-not_iso (Ref Iso c) (Ref Tmp d) i b = let e : false ≡ true = and_second 
 below-not_iso (Ref Iso c) (Ref Paused d) i b = let e : false ≡ true = and_second (c == d) false b in cc
 below-not_iso (Ref Iso c) (Ref Imm d) i b = let e : false ≡ true = and_second (c == d) false b in cc
 below-not_iso (Ref Iso c) (Ref Iso d) i b = grind arith
+
+-- nor is an expression of which a number is expected
+pub number-not_iso : (classes : List Class) (env : Env) (e : Expr) (j : Judged) → judge_expr classes env (Some Int) e ≡ Ok j → is_iso j.ty ≡ false
+number-not_iso classes env e j h = below-not_iso j.ty Int refl (judge_expr-below classes env Int e j h)
 
 -- two types that aren't `iso`
 abbrev pub NotIso : Ty → Ty → Type 0
@@ -175,3 +201,9 @@ judge_expr-env classes env w (binary op a b) j h n =
     (against-ok w (result_type (among op)) p.r.env j p.last).env_is
     ∙ judge_expr-env classes p.l.env (operand_type (among op)) b p.r p.operands.right i.1
     ∙ judge_expr-env classes env (operand_type (among op)) a p.l p.operands.left i.0
+judge_expr-env classes env w (size q) j h n =
+    let p = then-ok (walk_array classes env q.base q.fields) _ j h in (against-ok w Int env j p.2).env_is
+judge_expr-env classes env w (element q e) j h n =
+    let p = element-ok classes env w q e j h in
+    (against-ok w p.ty p.index.env j p.last).env_is
+    ∙ judge_expr-env classes env (Some Int) e p.index p.judged (number-not_iso classes env e p.index p.judged)

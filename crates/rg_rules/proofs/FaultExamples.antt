@@ -16,7 +16,7 @@ used_twice : Example
     ∷ "main arena { let y: iso N = new iso N in trace; let k: int = read; if k == 1 { let z: iso N = y; } let w: iso N = y; }" ∷ [])
     (fault code.Unavailable)
     (program (class_named "N" false (field_named "v" int ∷ []) ∷ []) manager.Arena
-    (declare (codes "y") (to cap.Iso "N") (new_iso (codes "N") manager.Trace)
+    (declare (codes "y") (to cap.Iso "N") (new_iso (codes "N") None manager.Trace)
     ∷ declare (codes "k") int read
     ∷ branch (binary op.Eq (use_of "k") (number (pos 1))) (block (declare (codes "z") (to cap.Iso "N") (value (use_of "y")) ∷ [])) no_else
     ∷ declare (codes "w") (to cap.Iso "N") (value (use_of "y")) ∷ []))
@@ -29,10 +29,10 @@ made_again : Example
     ∷ "main arena { let y: iso N = new iso N in trace; let k: int = read; if k == 1 { let z: iso N = y; } y = new iso N in trace; }" ∷ [])
     None
     (program (class_named "N" false (field_named "v" int ∷ []) ∷ []) manager.Arena
-    (declare (codes "y") (to cap.Iso "N") (new_iso (codes "N") manager.Trace)
+    (declare (codes "y") (to cap.Iso "N") (new_iso (codes "N") None manager.Trace)
     ∷ declare (codes "k") int read
     ∷ branch (binary op.Eq (use_of "k") (number (pos 1))) (block (declare (codes "z") (to cap.Iso "N") (value (use_of "y")) ∷ [])) no_else
-    ∷ assign (var "y") (new_iso (codes "N") manager.Trace) ∷ []))
+    ∷ assign (var "y") (new_iso (codes "N") None manager.Trace) ∷ []))
 unfolding digits
 made_again = (refl, refl)
 
@@ -43,11 +43,11 @@ outer_field_written : Example
     ∷ "a.v = 1; } }" ∷ [])
     (fault code.Capability)
     (program (class_named "N" false (field_named "v" int ∷ field_named "down" (to cap.Iso "N") ∷ []) ∷ []) manager.Trace
-    (declare (codes "a") (to cap.Mut "N") (new (codes "N"))
+    (declare (codes "a") (to cap.Mut "N") (new (codes "N") None)
     ∷ declare (codes "k") int (value (number (pos 0)))
     ∷ declare (codes "w") (to cap.Iso "N") (value nil)
-    ∷ declare (codes "y") (to cap.Iso "N") (new_iso (codes "N") manager.Arena)
-    ∷ enter (var "y") (codes "z") (block (assign (dot "a" "v") (value (number (pos 1))) ∷ [])) ∷ []))
+    ∷ declare (codes "y") (to cap.Iso "N") (new_iso (codes "N") None manager.Arena)
+    ∷ enter (var "y") (codes "z") (block (assign (dot "a" "v") (value (number (pos 1))) ∷ [])) None ∷ []))
 unfolding digits
 outer_field_written = (refl, refl)
 
@@ -58,11 +58,11 @@ outer_reference_assigned : Example
     ∷ "a = nil; } }" ∷ [])
     (fault code.OutsideWindow)
     (program (class_named "N" false (field_named "v" int ∷ field_named "down" (to cap.Iso "N") ∷ []) ∷ []) manager.Trace
-    (declare (codes "a") (to cap.Mut "N") (new (codes "N"))
+    (declare (codes "a") (to cap.Mut "N") (new (codes "N") None)
     ∷ declare (codes "k") int (value (number (pos 0)))
     ∷ declare (codes "w") (to cap.Iso "N") (value nil)
-    ∷ declare (codes "y") (to cap.Iso "N") (new_iso (codes "N") manager.Arena)
-    ∷ enter (var "y") (codes "z") (block (assign (var "a") (value nil) ∷ [])) ∷ []))
+    ∷ declare (codes "y") (to cap.Iso "N") (new_iso (codes "N") None manager.Arena)
+    ∷ enter (var "y") (codes "z") (block (assign (var "a") (value nil) ∷ [])) None ∷ []))
 unfolding digits
 outer_reference_assigned = (refl, refl)
 
@@ -73,11 +73,11 @@ outer_field_swapped : Example
     ∷ "swap w, a.down; } }" ∷ [])
     (fault code.Capability)
     (program (class_named "N" false (field_named "v" int ∷ field_named "down" (to cap.Iso "N") ∷ []) ∷ []) manager.Trace
-    (declare (codes "a") (to cap.Mut "N") (new (codes "N"))
+    (declare (codes "a") (to cap.Mut "N") (new (codes "N") None)
     ∷ declare (codes "k") int (value (number (pos 0)))
     ∷ declare (codes "w") (to cap.Iso "N") (value nil)
-    ∷ declare (codes "y") (to cap.Iso "N") (new_iso (codes "N") manager.Arena)
-    ∷ enter (var "y") (codes "z") (block (swap (codes "w") (dot "a" "down") ∷ [])) ∷ []))
+    ∷ declare (codes "y") (to cap.Iso "N") (new_iso (codes "N") None manager.Arena)
+    ∷ enter (var "y") (codes "z") (block (swap (codes "w") (dot "a" "down") ∷ [])) None ∷ []))
 unfolding digits
 outer_field_swapped = (refl, refl)
 
@@ -88,11 +88,11 @@ outer_number_assigned : Example
     ∷ "k = 1; } }" ∷ [])
     None
     (program (class_named "N" false (field_named "v" int ∷ field_named "down" (to cap.Iso "N") ∷ []) ∷ []) manager.Trace
-    (declare (codes "a") (to cap.Mut "N") (new (codes "N"))
+    (declare (codes "a") (to cap.Mut "N") (new (codes "N") None)
     ∷ declare (codes "k") int (value (number (pos 0)))
     ∷ declare (codes "w") (to cap.Iso "N") (value nil)
-    ∷ declare (codes "y") (to cap.Iso "N") (new_iso (codes "N") manager.Arena)
-    ∷ enter (var "y") (codes "z") (block (assign (var "k") (value (number (pos 1))) ∷ [])) ∷ []))
+    ∷ declare (codes "y") (to cap.Iso "N") (new_iso (codes "N") None manager.Arena)
+    ∷ enter (var "y") (codes "z") (block (assign (var "k") (value (number (pos 1))) ∷ [])) None ∷ []))
 unfolding digits
 outer_number_assigned = (refl, refl)
 
@@ -103,11 +103,11 @@ entered_variable_assigned : Example
     ∷ "y = nil; } }" ∷ [])
     (fault code.Unavailable)
     (program (class_named "N" false (field_named "v" int ∷ field_named "down" (to cap.Iso "N") ∷ []) ∷ []) manager.Trace
-    (declare (codes "a") (to cap.Mut "N") (new (codes "N"))
+    (declare (codes "a") (to cap.Mut "N") (new (codes "N") None)
     ∷ declare (codes "k") int (value (number (pos 0)))
     ∷ declare (codes "w") (to cap.Iso "N") (value nil)
-    ∷ declare (codes "y") (to cap.Iso "N") (new_iso (codes "N") manager.Arena)
-    ∷ enter (var "y") (codes "z") (block (assign (var "y") (value nil) ∷ [])) ∷ []))
+    ∷ declare (codes "y") (to cap.Iso "N") (new_iso (codes "N") None manager.Arena)
+    ∷ enter (var "y") (codes "z") (block (assign (var "y") (value nil) ∷ [])) None ∷ []))
 unfolding digits
 entered_variable_assigned = (refl, refl)
 
@@ -142,10 +142,10 @@ frozen_read : Example
     ∷ "swap w, z.down; } let f: imm N = freeze y; print f.down.v; }" ∷ [])
     None
     (program (class_named "N" false (field_named "v" int ∷ field_named "down" (to cap.Iso "N") ∷ []) ∷ []) manager.Trace
-    (declare (codes "y") (to cap.Iso "N") (new_iso (codes "N") manager.Arena)
-    ∷ declare (codes "w") (to cap.Iso "N") (new_iso (codes "N") manager.Count)
-    ∷ enter (var "w") (codes "z") (block (assign (dot "z" "v") (value (number (pos 9))) ∷ []))
-    ∷ enter (var "y") (codes "z") (block (swap (codes "w") (dot "z" "down") ∷ []))
+    (declare (codes "y") (to cap.Iso "N") (new_iso (codes "N") None manager.Arena)
+    ∷ declare (codes "w") (to cap.Iso "N") (new_iso (codes "N") None manager.Count)
+    ∷ enter (var "w") (codes "z") (block (assign (dot "z" "v") (value (number (pos 9))) ∷ [])) None
+    ∷ enter (var "y") (codes "z") (block (swap (codes "w") (dot "z" "down") ∷ [])) None
     ∷ declare (codes "f") (to cap.Imm "N") (freeze (codes "y"))
     ∷ print (path (dots "f" "down" "v")) ∷ []))
 unfolding digits
@@ -158,10 +158,10 @@ frozen_written : Example
     ∷ "swap w, z.down; } let f: imm N = freeze y; f.v = 1; }" ∷ [])
     (fault code.Capability)
     (program (class_named "N" false (field_named "v" int ∷ field_named "down" (to cap.Iso "N") ∷ []) ∷ []) manager.Trace
-    (declare (codes "y") (to cap.Iso "N") (new_iso (codes "N") manager.Arena)
-    ∷ declare (codes "w") (to cap.Iso "N") (new_iso (codes "N") manager.Count)
-    ∷ enter (var "w") (codes "z") (block (assign (dot "z" "v") (value (number (pos 9))) ∷ []))
-    ∷ enter (var "y") (codes "z") (block (swap (codes "w") (dot "z" "down") ∷ []))
+    (declare (codes "y") (to cap.Iso "N") (new_iso (codes "N") None manager.Arena)
+    ∷ declare (codes "w") (to cap.Iso "N") (new_iso (codes "N") None manager.Count)
+    ∷ enter (var "w") (codes "z") (block (assign (dot "z" "v") (value (number (pos 9))) ∷ [])) None
+    ∷ enter (var "y") (codes "z") (block (swap (codes "w") (dot "z" "down") ∷ [])) None
     ∷ declare (codes "f") (to cap.Imm "N") (freeze (codes "y"))
     ∷ assign (dot "f" "v") (value (number (pos 1))) ∷ []))
 unfolding digits
@@ -173,8 +173,8 @@ iso_field_asked : Example
     ∷ "main trace { let a: mut N = new N; let y: iso N = new iso N in arena; swap y, a.down; print y is nil; print a.down is nil; }" ∷ [])
     None
     (program (class_named "N" false (field_named "v" int ∷ field_named "down" (to cap.Iso "N") ∷ []) ∷ []) manager.Trace
-    (declare (codes "a") (to cap.Mut "N") (new (codes "N"))
-    ∷ declare (codes "y") (to cap.Iso "N") (new_iso (codes "N") manager.Arena)
+    (declare (codes "a") (to cap.Mut "N") (new (codes "N") None)
+    ∷ declare (codes "y") (to cap.Iso "N") (new_iso (codes "N") None manager.Arena)
     ∷ swap (codes "y") (dot "a" "down")
     ∷ print (is_nil (var "y"))
     ∷ print (is_nil (dot "a" "down")) ∷ []))
@@ -188,8 +188,8 @@ iso_field_read : Example
     ∷ "print a.down is nil; }" ∷ [])
     (fault code.IsoField)
     (program (class_named "N" false (field_named "v" int ∷ field_named "down" (to cap.Iso "N") ∷ []) ∷ []) manager.Trace
-    (declare (codes "a") (to cap.Mut "N") (new (codes "N"))
-    ∷ declare (codes "y") (to cap.Iso "N") (new_iso (codes "N") manager.Arena)
+    (declare (codes "a") (to cap.Mut "N") (new (codes "N") None)
+    ∷ declare (codes "y") (to cap.Iso "N") (new_iso (codes "N") None manager.Arena)
     ∷ swap (codes "y") (dot "a" "down")
     ∷ declare (codes "q") (to cap.Iso "N") (value (path (dot "a" "down")))
     ∷ print (is_nil (dot "a" "down")) ∷ []))
@@ -239,7 +239,7 @@ too_few_arguments : Example
     (program (class_named "A" false (field_named "n" int
     ∷ method_named cap.Mut "f" (param "k" int ∷ []) (Some int) (return (use_of "k") ∷ []) ∷ []) ∷ [])
     manager.Arena
-    (declare (codes "a") (to cap.Mut "A") (new (codes "A")) ∷ call (call_of (var "a") "f" []) ∷ []))
+    (declare (codes "a") (to cap.Mut "A") (new (codes "A") None) ∷ call (call_of (var "a") "f" []) ∷ []))
 unfolding digits
 too_few_arguments = (refl, refl)
 
@@ -250,7 +250,7 @@ call_into_field : Example
     (program (class_named "A" false (field_named "n" int
     ∷ method_named cap.Mut "f" (param "k" int ∷ []) (Some int) (return (use_of "k") ∷ []) ∷ []) ∷ [])
     manager.Arena
-    (declare (codes "a") (to cap.Mut "A") (new (codes "A"))
+    (declare (codes "a") (to cap.Mut "A") (new (codes "A") None)
     ∷ assign (dot "a" "n") (result_of (call_of (var "a") "f" ((number (pos 1)) ∷ []))) ∷ []))
 unfolding digits
 call_into_field = (refl, refl)

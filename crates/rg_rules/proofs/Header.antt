@@ -10,7 +10,7 @@ use Rattle.rg_rules.specs.Answers.{◌>>◌, test, Answer, Passed, at_line}
 use Rattle.rg_rules.specs.Types.{class_number, class_named, type_of, suits_class, good_type, field_member, method_member, members_of, fields_of}
 use Rattle.rg_rules.specs.Types.{method_named}
 use Rattle.rg_rules.specs.Headers.{suits_receiver, among, field_header, param_headers, result_header, method_header, member_headers, class_names}
-use Rattle.rg_rules.specs.Headers.{class_members, judge_headers}
+use Rattle.rg_rules.specs.Headers.{element_header, no_members, rest_header, class_members, judge_headers}
 use Rattle.rg_rules.proofs.Answers.{bind-ok, then-ok, test-ok, test-then, ok_or-ok, at_line-ok}
 
 -- the number of a class that is there is below the number of classes
@@ -22,6 +22,17 @@ class_number-named (d ∷ ds) x c h = by (bytes_eq d.name x) h (class_number-nam
         (if b then 0 else suc (class_number ds x)) < suc (length ds)
     by true e rest = omega arith
     by false e rest = let l : class_number ds x < length ds = rest e in omega arith
+
+-- and the class of that number is it
+pub class_number-at : (classes : List Class) (x : Name) (c : Class) → class_named classes x ≡ Some c →
+    slice_get classes (class_number classes x) ≡ Some c
+class_number-at [] x c h = grind arith
+class_number-at (d ∷ ds) x c h = by (bytes_eq d.name x) h (class_number-at ds x c)
+  where
+    by : (b : Bool) → (if b then Some d else class_named ds x) ≡ Some c → (class_named ds x ≡ Some c → slice_get ds (class_number ds x) ≡ Some c) →
+        slice_get (d ∷ ds) (if b then 0 else suc (class_number ds x)) ≡ Some c
+    by true e rest = e
+    by false e rest = rest e
 
 -- a good type is the type that is written so
 pub good_type-type_of : (classes : List Class) (w : Written) (ty : Ty) → good_type classes w ≡ Ok ty → ty ≡ type_of classes w
@@ -125,21 +136,34 @@ result-good classes c earlier m h w e =
     let q = then-ok (at_line m.line (method_header classes c m)) _ tt p.2 in
     (method_header-parts classes c m (at_line-ok m.line (method_header classes c m) tt q.1)).result w e
 
--- the headers of a class that is there
+-- what stands behind the name of a class that is there
 pub class_members-at : (classes cs : List Class) (n : ℕ) (d : Class) → class_members classes cs ≡ Ok tt → slice_get cs n ≡ Some d →
-    member_headers classes d [] d.members ≡ Ok tt
+    rest_header classes d d.element ≡ Ok tt
 class_members-at classes [] n d h g = grind arith
 class_members-at classes (x ∷ xs) zero d h g =
-    let p = then-ok (member_headers classes x [] x.members) _ tt h in
+    let p = then-ok (rest_header classes x x.element) _ tt h in
     let same : x ≡ d = grind arith in rw (← same) p.1
 class_members-at classes (x ∷ xs) (suc n) d h g =
-    let p = then-ok (member_headers classes x [] x.members) _ tt h in class_members-at classes xs n d p.2 g
+    let p = then-ok (rest_header classes x x.element) _ tt h in class_members-at classes xs n d p.2 g
+
+-- an array class has no members
+pub no_members-none : (ms : List Member) → no_members ms ≡ true → ms ≡ []
+no_members-none [] h = refl
+no_members-none (m ∷ ms) h = grind arith
+
+pub rest_header-members : (classes : List Class) (d : Class) (o : Option Written) → rest_header classes d o ≡ Ok tt →
+    member_headers classes d [] d.members ≡ Ok tt
+rest_header-members classes d None h = h
+rest_header-members classes d (Some t) h =
+    let p = then-ok (at_line d.line (element_header classes d t)) _ tt h in
+    let n = test-ok (no_members d.members) BadType tt (at_line-ok d.line (test (no_members d.members) BadType) tt p.2) in
+    rw (no_members-none d.members n) refl
 
 -- the headers of a class of a program whose headers have no fault
 pub judge_headers-members : (classes : List Class) (n : ℕ) (d : Class) → judge_headers classes ≡ Ok tt → slice_get classes n ≡ Some d →
     member_headers classes d [] d.members ≡ Ok tt
 judge_headers-members classes n d h g =
-    let p = then-ok (class_names [] classes) _ tt h in class_members-at classes classes n d p.2 g
+    let p = then-ok (class_names [] classes) _ tt h in rest_header-members classes d d.element (class_members-at classes classes n d p.2 g)
 
 found_either : {A : Type 0} (b : Bool) (a x : A) (others : Option A) → (if b then Some a else others) ≡ Some x → (a ≡ x) ⊎ (others ≡ Some x)
 found_either true a x others g = inl (grind arith)

@@ -19,5 +19,7 @@ mod RunSources
 mod RunExamples
 mod CollectExamples
 mod LongExamples
+mod ArrayExamples
+mod GivingExamples
 mod StepExamples
 mod MissingExamples

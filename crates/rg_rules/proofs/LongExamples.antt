@@ -25,7 +25,7 @@ abbrev list : Class
 list = class_named "List" false
     (field_named "head" (to cap.Mut "Node")
     ∷ method_named cap.Mut "push" (param "v" int ∷ []) None
-    (declare (codes "n") (to cap.Mut "Node") (new (codes "Node"))
+    (declare (codes "n") (to cap.Mut "Node") (new (codes "Node") None)
     ∷ assign (dot "n" "value") (value (use_of "v"))
     ∷ assign (dot "n" "next") (value (path (self_dot "head"))) ∷ assign (self_dot "head") (value (use_of "n")) ∷ [])
     ∷ method_named cap.Mut "thin" [] None
@@ -51,7 +51,7 @@ list = class_named "List" false
 -- a list of so many nodes in a region, every second one of which is unlinked
 abbrev nodes : ℕ → Tree
 nodes size = program (node ∷ list ∷ []) manager.Arena
-    (declare (codes "box") (to cap.Iso "List") (new_iso (codes "List") manager.Trace)
+    (declare (codes "box") (to cap.Iso "List") (new_iso (codes "List") None manager.Trace)
     ∷ enter (var "box") (codes "l")
     (block
     (declare (codes "i") int (value (number (pos 1)))
@@ -62,7 +62,7 @@ nodes size = program (node ∷ list ∷ []) manager.Arena
     ∷ declare (codes "all") int (result_of (call_of (var "l") "sum" []))
     ∷ print (use_of "all")
     ∷ call (call_of (var "l") "thin" [])
-    ∷ declare (codes "half") int (result_of (call_of (var "l") "sum" [])) ∷ print (use_of "half") ∷ collect ∷ []))
+    ∷ declare (codes "half") int (result_of (call_of (var "l") "sum" [])) ∷ print (use_of "half") ∷ collect ∷ [])) None
     ∷ print (number (pos 1)) ∷ [])
 
 nodes-text : Source
@@ -107,7 +107,7 @@ deep_calls = program
     (block (assign (var "r") (result_of (call_of self "go" (binary op.Sub (use_of "k") (number (pos 1)) ∷ []))) ∷ [])) no_else
     ∷ return (use_of "r") ∷ []) ∷ []) ∷ [])
     manager.Trace
-    (declare (codes "a") (to cap.Mut "R") (new (codes "R"))
+    (declare (codes "a") (to cap.Mut "R") (new (codes "R") None)
     ∷ declare (codes "n") int read
     ∷ declare (codes "r") int (result_of (call_of (var "a") "go" (use_of "n" ∷ []))) ∷ print (use_of "r") ∷ [])
 

@@ -1,6 +1,6 @@
 -- Steps of states that no accepted program makes, computed: what isn't there reads as nil or only takes the item away, and an operand
 -- of another kind counts as 0, `false` or nil.
-use Rattle.std.proofs.Common.{◌≡◌, refl, pos, true, List, [], ◌∷◌, Some, codes}
+use Rattle.std.proofs.Common.{◌≡◌, refl, pos, true, List, [], ◌∷◌, Some, codes, None}
 use Rattle.rg_base.specs.declared.ty.Ty.TheVariants as ty
 use Rattle.rg_base.specs.declared.words.Cap.TheVariants as cap
 use Rattle.rg_base.specs.declared.words.Manager.TheVariants as manager
@@ -9,9 +9,9 @@ use Rattle.rg_base.specs.declared.outcome.Trap.TheVariants as trap
 use Rattle.rg_base.specs.declared.value.Val.{Val}
 use Rattle.rg_base.specs.declared.value.Val.TheVariants as val
 use Rattle.rg_tree.specs.declared.rows.BinOp.TheVariants as op
-use Rattle.rg_tree.specs.Tree.{int, Expr, number, boolean, path, is_nil, not, binary, value, new, freeze, merge, StmtKind, stmt, declare, assign}
-use Rattle.rg_tree.specs.Tree.{call, swap, enter, print, return, Class}
-use Rattle.rg_rules.specs.Items.{Item, Do, EndAt, LeaveAt, Back}
+use Rattle.rg_tree.specs.Tree.{int, Expr, number, boolean, path, is_nil, not, binary, size, value, new, freeze, merge, StmtKind, stmt, declare}
+use Rattle.rg_tree.specs.Tree.{assign, call, swap, enter, print, return, Class}
+use Rattle.rg_rules.specs.Items.{Item, Do, EndAt, LeaveAt, LeaveGiving, Back}
 use Rattle.rg_rules.specs.State.{State, add_local}
 use Rattle.rg_rules.specs.Steps.{Went, Trapped, next}
 use Rattle.rg_rules.specs.Runs.{opening}
@@ -47,7 +47,7 @@ nothing_left : next classes (standing []) ≡ Went (standing [])
 nothing_left = refl
 
 -- the class isn't there
-no_class : next classes (doing (declare (codes "x") int (new (codes "C")))) ≡ Went done
+no_class : next classes (doing (declare (codes "x") int (new (codes "C") None))) ≡ Went done
 no_class = refl
 
 -- the method isn't there
@@ -65,6 +65,9 @@ no_second_frame_behind = refl
 no_second_window : next classes (standing (LeaveAt 0 ∷ EndAt 1 ∷ [])) ≡ Went done
 no_second_window = refl
 
+no_second_window_to_give : next classes (standing (LeaveGiving 1 0 (codes "t") ∷ EndAt 1 ∷ [])) ≡ Went done
+no_second_window_to_give = refl
+
 -- the region isn't there
 no_region_to_freeze : next classes (doing (assign (var "t") (freeze (codes "t")))) ≡ Went done
 no_region_to_freeze = refl
@@ -72,7 +75,7 @@ no_region_to_freeze = refl
 no_region_to_merge : next classes (doing (assign (var "t") (merge (codes "t")))) ≡ Went done
 no_region_to_merge = refl
 
-no_region_to_enter : next classes (doing (enter (var "t") (codes "z") (block []))) ≡ Went done
+no_region_to_enter : next classes (doing (enter (var "t") (codes "z") (block []) None)) ≡ Went done
 no_region_to_enter = refl
 
 -- a store without a place changes nothing
@@ -86,7 +89,7 @@ no_field_to_swap : next classes (doing (swap (codes "t") (var "t"))) ≡ Went do
 no_field_to_swap = refl
 
 -- what isn't there is nil, and following it traps
-no_field_to_enter : next classes (doing (enter (dot "t" "x") (codes "z") (block []))) ≡ Trapped trap.Nil 1
+no_field_to_enter : next classes (doing (enter (dot "t" "x") (codes "z") (block []) None)) ≡ Trapped trap.Nil 1
 no_field_to_enter = refl
 
 no_variable_to_follow : next classes (doing (print (path (dot "x" "v")))) ≡ Trapped trap.Nil 1
@@ -108,6 +111,10 @@ no_variable_to_print = refl
 
 no_field_to_print : Prints (path (dot "t" "x")) val.Nil
 no_field_to_print = refl
+
+-- an object that is no array has as many elements as fields
+size_of_object : Prints (size (var "t")) (val.Int (pos 1))
+size_of_object = refl
 
 -- a truth value counts as 0, a number as `false` or nil
 truth_added : Prints (binary op.Add (boolean true) (number (pos 2))) (val.Int (pos 2))

@@ -1,5 +1,5 @@
 -- Where faults stand, what classes say of names, and what there is at points of bodies, computed.
-use Rattle.std.proofs.Common.{◌≡◌, refl, pos, true, false, List, [], ◌∷◌, Some, None, codes}
+use Rattle.std.proofs.Common.{◌≡◌, refl, pos, true, false, List, [], ◌∷◌, Some, None, option_map, codes}
 use Prim.Native.String.{String}
 use Rattle.rg_base.specs.declared.words.Cap.TheVariants as cap
 use Rattle.rg_base.specs.declared.words.Manager.TheVariants as manager
@@ -9,13 +9,13 @@ use Rattle.rg_base.specs.declared.ty.Ty.TheVariants as ty
 use Rattle.rg_tree.specs.declared.rows.BinOp.TheVariants as op
 use Rattle.rg_tree.specs.Tree.{int, boolean, number, nil, binary, value, new_iso, StmtKind, stmt, declare, assign, while, enter, print, Block, empty}
 use Rattle.rg_tree.specs.Tree.{then, method, Class, Tree}
-use Rattle.rg_rules.specs.Types.{class_number, fields_of, field_place, field_type}
+use Rattle.rg_rules.specs.Types.{class_number, fields_of, field_place, field_type, element_type}
 use Rattle.rg_rules.specs.Environment.{Readiness, ready, gone, lent, Entry}
-use Rattle.rg_rules.specs.Items.{Do, EndAt, LeaveAt}
+use Rattle.rg_rules.specs.Items.{Do, EndAt, LeaveAt, LeaveGiving}
 use Rattle.rg_rules.specs.Bodies.{main_body}
 use Rattle.rg_rules.specs.Points.{first, Point, here, behind, inside, spot_at, env_at}
 use Rattle.rg_rules.specs.Acceptance.{first_fault}
-use Rattle.rg_rules.proofs.Sources.{var, dot, use_of, to, block, field_named, class_named, program}
+use Rattle.rg_rules.proofs.Sources.{var, dot, use_of, to, block, field_named, class_named, array_class, program}
 use Rattle.rg_rules.proofs.Point.{advance}
 
 -- tmp class T { p: paused A; } class A { x: iso A; n: int; }
@@ -44,9 +44,27 @@ type-of_field = refl
 type-of_no_field : field_type classes 1 (codes "p") ≡ None
 type-of_no_field = refl
 
+-- an array class has the type of its elements, and no fields
+abbrev arrays : List Class
+arrays = array_class "R" false (to cap.Imm "A") ∷ classes
+
+type-of_element : element_type arrays 0 ≡ Some (ty.Ref cap.Imm 2)
+type-of_element = refl
+
+type-of_no_element : element_type arrays 1 ≡ None
+type-of_no_element = refl
+
+fields-of_array : fields_of arrays 0 ≡ []
+fields-of_array = refl
+
 -- main's statements on lines 2, 3, .., and main on line 1
 abbrev main_with : List Class → Block → Tree
 main_with cs b = record { classes = cs; manager = manager.Arena; body = b; line = 1 }
+
+-- a bad type of elements has the line of its class
+line-of_element : first_fault (main_with (record (array_class "R" false (to cap.Iso "R")) { line = 5 } ∷ []) empty)
+    ≡ Some (record { code = code.BadType; line = 5 })
+line-of_element = refl
 
 -- a fault in a block has the line of its own statement
 line-of_inner_statement : first_fault (main_with [] (then (stmt 2 (while (boolean true) (then (stmt 3 (print nil)) empty))) empty))
@@ -64,6 +82,7 @@ abbrev forgetful : Class
 forgetful = record {
   name = codes "A";
   is_tmp = false;
+  element = None;
   members = method (record {
     receiver = cap.Mut;
     name = codes "f";
@@ -130,8 +149,8 @@ spot-in_loop = refl
 
 -- `let y: iso N = new iso N in trace; enter y as z { z.v = 1; }`
 abbrev entering : Tree
-entering = program (node ∷ []) manager.Arena (declare (codes "y") (to cap.Iso "N") (new_iso (codes "N") manager.Trace)
-    ∷ enter (var "y") (codes "z") (block (assign (dot "z" "v") (value (number (pos 1))) ∷ [])) ∷ [])
+entering = program (node ∷ []) manager.Arena (declare (codes "y") (to cap.Iso "N") (new_iso (codes "N") None manager.Trace)
+    ∷ enter (var "y") (codes "z") (block (assign (dot "z" "v") (value (number (pos 1))) ∷ [])) None ∷ [])
 
 -- in front of the statement inside the window: the entered variable is lent, and the bridge is one deeper
 spot-in_window : spot_at entering.classes (main_body entering) (behind (inside first here)) ≡ Some (record {
@@ -143,6 +162,15 @@ spot-in_window : spot_at entering.classes (main_body entering) (behind (inside f
   enters = var "y" ∷ [];
 })
 spot-in_window = refl
+
+-- the block of an `enter` that gives something ends with that, and with the line of the `enter`
+abbrev entering_to_give : Tree
+entering_to_give = program (node ∷ []) manager.Arena (declare (codes "y") (to cap.Iso "N") (new_iso (codes "N") None manager.Trace)
+    ∷ enter (var "y") (codes "z") (block (print (number (pos 1)) ∷ [])) (Some (codes "z")) ∷ [])
+
+spot-behind_window : option_map (λ s. s.items) (spot_at entering_to_give.classes (main_body entering_to_give) (behind (inside first (behind here))))
+    ≡ Some (LeaveGiving 1 1 (codes "z") ∷ EndAt 0 ∷ [])
+spot-behind_window = refl
 
 -- a body without a point there
 no_spot : spot_at entering.classes (main_body entering) (behind (behind (behind here))) ≡ None

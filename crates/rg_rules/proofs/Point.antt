@@ -64,16 +64,17 @@ inner_block-judged classes last line env (branch c b (otherwise other)) second i
     (r.0, same_block classes p.0 i.env r.0 other i.block (sym a.0 ∙ at_line-ok line (judge_test classes env c) p.0 p.1) a.1 r.1)
 inner_block-judged classes last line env (while c b) first i mid h e = behind_test classes line (judge_test classes env c) b _ i mid h e
 inner_block-judged classes last line env (while c b) second i mid h e = grind arith
-inner_block-judged classes last line env (enter p z b) first i mid h e =
+inner_block-judged classes last line env (enter p z b giving) first i mid h e =
     behind_test classes line (judge_enter classes env p.base p.fields z) b _ i mid h e
-inner_block-judged classes last line env (enter p z b) second i mid h e = grind arith
+inner_block-judged classes last line env (enter p z b giving) second i mid h e = grind arith
 inner_block-judged classes last line env _ side i mid h e = grind arith
 
 pub block_end-free : (classes : List Class) (env : Env) (n line : ℕ) (k : StmtKind) (side : Side) (i : Opened) (more : List Item) →
     inner_block classes env k side ≡ Some i → BeginsFree (block_end n line k ++ more)
 block_end-free classes env n line (branch c b other) side i more e = tt
 block_end-free classes env n line (while c b) side i more e = tt
-block_end-free classes env n line (enter p z b) side i more e = tt
+block_end-free classes env n line (enter p z b None) side i more e = tt
+block_end-free classes env n line (enter p z b (Some w)) side i more e = tt
 block_end-free classes env n line _ side i more e = grind arith
 
 -- the statement at a point has no fault, and behind it stands the next point

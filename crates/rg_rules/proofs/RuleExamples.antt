@@ -198,20 +198,20 @@ asked_twice = (refl, refl)
 
 -- `new` of an unknown class
 new_of_unknown_class : Example ("class A { }" ∷ "main arena { let a: mut A = new B; }" ∷ []) (fault code.Unknown)
-    (program (class_named "A" false [] ∷ []) manager.Arena (declare (codes "a") (to cap.Mut "A") (new (codes "B")) ∷ []))
+    (program (class_named "A" false [] ∷ []) manager.Arena (declare (codes "a") (to cap.Mut "A") (new (codes "B") None) ∷ []))
 unfolding digits
 new_of_unknown_class = (refl, refl)
 
 -- `new` of a tmp class
 new_of_tmp_class : Example ("tmp class T { }" ∷ "class A { }" ∷ "main arena { let a: mut A = new T; }" ∷ []) (fault code.BadType)
     (program (class_named "T" true [] ∷ class_named "A" false [] ∷ []) manager.Arena
-    (declare (codes "a") (to cap.Mut "A") (new (codes "T")) ∷ []))
+    (declare (codes "a") (to cap.Mut "A") (new (codes "T") None) ∷ []))
 unfolding digits
 new_of_tmp_class = (refl, refl)
 
 -- `new tmp` of an ordinary class
 new_tmp_of_ordinary_class : Example ("class A { }" ∷ "main arena { let a: mut A = new tmp A; }" ∷ []) (fault code.BadType)
-    (program (class_named "A" false [] ∷ []) manager.Arena (declare (codes "a") (to cap.Mut "A") (new_tmp (codes "A")) ∷ []))
+    (program (class_named "A" false [] ∷ []) manager.Arena (declare (codes "a") (to cap.Mut "A") (new_tmp (codes "A") None) ∷ []))
 unfolding digits
 new_tmp_of_ordinary_class = (refl, refl)
 
@@ -315,7 +315,7 @@ outer_imm_assigned : Example ("class A { }" ∷ "main arena { let f: imm A = nil
     (program (class_named "A" false [] ∷ []) manager.Arena
     (declare (codes "f") (to cap.Imm "A") (value nil)
     ∷ declare (codes "y") (to cap.Iso "A") (value nil)
-    ∷ enter (var "y") (codes "z") (block (assign (var "f") (value nil) ∷ [])) ∷ []))
+    ∷ enter (var "y") (codes "z") (block (assign (var "f") (value nil) ∷ [])) None ∷ []))
 unfolding digits
 outer_imm_assigned = (refl, refl)
 
@@ -327,7 +327,7 @@ outer_mut_seen : Example
     (declare (codes "a") (to cap.Mut "A") (value nil)
     ∷ declare (codes "y") (to cap.Iso "A") (value nil)
     ∷ enter (var "y") (codes "z") (block (declare (codes "p") (to cap.Paused "A") (value (use_of "a"))
-    ∷ declare (codes "b") (to cap.Mut "A") (value (use_of "a")) ∷ [])) ∷ []))
+    ∷ declare (codes "b") (to cap.Mut "A") (value (use_of "a")) ∷ [])) None ∷ []))
 unfolding digits
 outer_mut_seen = (refl, refl)
 
@@ -335,7 +335,7 @@ outer_mut_seen = (refl, refl)
 lent_used : Example ("class A { }" ∷ "main arena { let y: iso A = nil; enter y as z { let w: iso A = y; } }" ∷ []) (fault code.Unavailable)
     (program (class_named "A" false [] ∷ []) manager.Arena
     (declare (codes "y") (to cap.Iso "A") (value nil)
-    ∷ enter (var "y") (codes "z") (block (declare (codes "w") (to cap.Iso "A") (value (use_of "y")) ∷ [])) ∷ []))
+    ∷ enter (var "y") (codes "z") (block (declare (codes "w") (to cap.Iso "A") (value (use_of "y")) ∷ [])) None ∷ []))
 unfolding digits
 lent_used = (refl, refl)
 
@@ -346,7 +346,7 @@ lent_behind_branch : Example
     (program (class_named "A" false [] ∷ []) manager.Arena
     (declare (codes "y") (to cap.Iso "A") (value nil)
     ∷ enter (var "y") (codes "z") (block (branch (boolean true) (block []) (otherwise (block []))
-    ∷ enter (var "y") (codes "w") (block []) ∷ [])) ∷ []))
+    ∷ enter (var "y") (codes "w") (block []) None ∷ [])) None ∷ []))
 unfolding digits
 lent_behind_branch = (refl, refl)
 
@@ -354,8 +354,8 @@ lent_behind_branch = (refl, refl)
 entered_again : Example ("class A { }" ∷ "main arena { let y: iso A = nil; enter y as z { } enter y as z { } }" ∷ []) None
     (program (class_named "A" false [] ∷ []) manager.Arena
     (declare (codes "y") (to cap.Iso "A") (value nil)
-    ∷ enter (var "y") (codes "z") (block [])
-    ∷ enter (var "y") (codes "z") (block []) ∷ []))
+    ∷ enter (var "y") (codes "z") (block []) None
+    ∷ enter (var "y") (codes "z") (block []) None ∷ []))
 unfolding digits
 entered_again = (refl, refl)
 
@@ -392,7 +392,7 @@ swap_with_number = (refl, refl)
 -- `enter` needs an `iso` variable
 mut_entered : Example ("class A { }" ∷ "main arena { let a: mut A = nil; enter a as z { } }" ∷ []) (fault code.Mismatch)
     (program (class_named "A" false [] ∷ []) manager.Arena
-    (declare (codes "a") (to cap.Mut "A") (value nil) ∷ enter (var "a") (codes "z") (block []) ∷ []))
+    (declare (codes "a") (to cap.Mut "A") (value nil) ∷ enter (var "a") (codes "z") (block []) None ∷ []))
 unfolding digits
 mut_entered = (refl, refl)
 
@@ -403,7 +403,7 @@ field_entered : Example
     None
     (program one_class manager.Arena
     (declare (codes "a") (to cap.Mut "A") (value nil)
-    ∷ enter (dot "a" "o") (codes "z") (block (assign (dot "z" "n") (value (number (pos 1))) ∷ [])) ∷ []))
+    ∷ enter (dot "a" "o") (codes "z") (block (assign (dot "z" "n") (value (number (pos 1))) ∷ [])) None ∷ []))
 unfolding digits
 field_entered = (refl, refl)
 

@@ -1,6 +1,6 @@
 -- Programs and their runs, computed: what each prints, how it stands, its steps and the objects that it made. Beside each text
 -- stands its tree.
-use Rattle.std.proofs.Common.{◌≡◌, refl, pos, negsuc, true, false, [], ◌∷◌, codes}
+use Rattle.std.proofs.Common.{◌≡◌, refl, pos, negsuc, true, false, [], ◌∷◌, codes, None}
 use Rattle.std.specs.Fmt.{digits}
 use Rattle.rg_base.specs.declared.words.Cap.TheVariants as cap
 use Rattle.rg_base.specs.declared.words.Manager.TheVariants as manager
@@ -189,8 +189,8 @@ zero_divisor-traps = refl
 -- the variable and the field exchange their references
 abbrev swapped : Tree
 swapped = program (nested ∷ []) manager.Trace
-    (declare (codes "a") (to cap.Mut "N") (new (codes "N"))
-    ∷ declare (codes "y") (to cap.Iso "N") (new_iso (codes "N") manager.Arena)
+    (declare (codes "a") (to cap.Mut "N") (new (codes "N") None)
+    ∷ declare (codes "y") (to cap.Iso "N") (new_iso (codes "N") None manager.Arena)
     ∷ swap (codes "y") (dot "a" "down") ∷ print (is_nil (var "y")) ∷ print (is_nil (dot "a" "down")) ∷ [])
 
 swapped-text : Source
@@ -208,10 +208,10 @@ swapped-ends = refl
 -- an owner is replaced
 abbrev owner_replaced : Tree
 owner_replaced = program (counted ∷ []) manager.Arena
-    (declare (codes "y") (to cap.Iso "N") (new_iso (codes "N") manager.Trace)
+    (declare (codes "y") (to cap.Iso "N") (new_iso (codes "N") None manager.Trace)
     ∷ declare (codes "k") int read
     ∷ branch (binary op.Eq (use_of "k") (number (pos 1))) (block (declare (codes "z") (to cap.Iso "N") (value (use_of "y")) ∷ [])) no_else
-    ∷ assign (var "y") (new_iso (codes "N") manager.Trace) ∷ [])
+    ∷ assign (var "y") (new_iso (codes "N") None manager.Trace) ∷ [])
 
 owner_replaced-text : Source
     ("class N { v: int; }"
@@ -227,10 +227,10 @@ owner_replaced-after_four = refl
 -- a region is frozen with what hangs beneath it
 abbrev frozen_beneath : Tree
 frozen_beneath = program (nested ∷ []) manager.Trace
-    (declare (codes "y") (to cap.Iso "N") (new_iso (codes "N") manager.Arena)
-    ∷ declare (codes "w") (to cap.Iso "N") (new_iso (codes "N") manager.Count)
-    ∷ enter (var "w") (codes "z") (block (assign (dot "z" "v") (value (number (pos 9))) ∷ []))
-    ∷ enter (var "y") (codes "z") (block (swap (codes "w") (dot "z" "down") ∷ []))
+    (declare (codes "y") (to cap.Iso "N") (new_iso (codes "N") None manager.Arena)
+    ∷ declare (codes "w") (to cap.Iso "N") (new_iso (codes "N") None manager.Count)
+    ∷ enter (var "w") (codes "z") (block (assign (dot "z" "v") (value (number (pos 9))) ∷ [])) None
+    ∷ enter (var "y") (codes "z") (block (swap (codes "w") (dot "z" "down") ∷ [])) None
     ∷ declare (codes "f") (to cap.Imm "N") (freeze (codes "y")) ∷ print (path (dots "f" "down" "v")) ∷ [])
 
 frozen_beneath-text : Source

@@ -60,7 +60,11 @@ method_named k m ps r body = method (record { receiver = k; name = codes m; para
 
 -- `class C { .. }`, or `tmp class C { .. }`
 abbrev pub class_named : String → (is_tmp : Bool) → List Member → Class
-class_named c is_tmp members = record { name = codes c; is_tmp = is_tmp; members = members; line = 1 }
+class_named c is_tmp members = record { name = codes c; is_tmp = is_tmp; element = None; members = members; line = 1 }
+
+-- `class C [T];`, or `tmp class C [T];`
+abbrev pub array_class : String → (is_tmp : Bool) → Ty → Class
+array_class c is_tmp t = record { name = codes c; is_tmp = is_tmp; element = Some t; members = []; line = 1 }
 
 -- classes, and `main M { .. }`
 abbrev pub program : List Class → Manager → List StmtKind → Tree

@@ -85,8 +85,8 @@ giving = class_named "A" false
 -- a variable goes away and comes back; given to itself it stays; given to another it is nil
 abbrev used_up : Tree
 used_up = program (counted ∷ giving ∷ []) manager.Arena
-    (declare (codes "a") (to cap.Mut "A") (new (codes "A"))
-    ∷ declare (codes "y") (to cap.Iso "N") (new_iso (codes "N") manager.Trace)
+    (declare (codes "a") (to cap.Mut "A") (new (codes "A") None)
+    ∷ declare (codes "y") (to cap.Iso "N") (new_iso (codes "N") None manager.Trace)
     ∷ assign (var "y") (result_of (call_of (var "a") "same" (use_of "y" ∷ [])))
     ∷ assign (var "y") (value (use_of "y"))
     ∷ print (is_nil (var "y")) ∷ declare (codes "z") (to cap.Iso "N") (value (use_of "y")) ∷ print (is_nil (var "z")) ∷ [])
@@ -122,8 +122,8 @@ taking = class_named "A" false (method_named cap.Mut "take" (param "y" (to cap.I
 -- an argument traps behind one that is used up
 abbrev trap_in_call : Tree
 trap_in_call = program (counted ∷ taking ∷ []) manager.Arena
-    (declare (codes "a") (to cap.Mut "A") (new (codes "A"))
-    ∷ declare (codes "y") (to cap.Iso "N") (new_iso (codes "N") manager.Trace)
+    (declare (codes "a") (to cap.Mut "A") (new (codes "A") None)
+    ∷ declare (codes "y") (to cap.Iso "N") (new_iso (codes "N") None manager.Trace)
     ∷ call (call_of (var "a") "take" (use_of "y" ∷ binary op.Div (number (pos 1)) (number (pos 0)) ∷ [])) ∷ [])
 
 trap_in_call-text : Source
@@ -158,7 +158,8 @@ nil_frozen-traps = refl
 
 -- nil can't be entered
 abbrev nil_entered : Tree
-nil_entered = program (counted ∷ []) manager.Arena (declare (codes "y") (to cap.Iso "N") (value nil) ∷ enter (var "y") (codes "z") (block []) ∷ [])
+nil_entered = program (counted ∷ []) manager.Arena
+    (declare (codes "y") (to cap.Iso "N") (value nil) ∷ enter (var "y") (codes "z") (block []) None ∷ [])
 
 nil_entered-text : Source ("class N { v: int; }" ∷ "main arena { let y: iso N = nil; enter y as z { } }" ∷ []) nil_entered
 unfolding digits
@@ -173,12 +174,12 @@ nil_entered-traps = refl
 -- a region is merged, and the one beneath it stays and is entered through a field
 abbrev merged_alone : Tree
 merged_alone = program (nested ∷ []) manager.Trace
-    (declare (codes "y") (to cap.Iso "N") (new_iso (codes "N") manager.Arena)
-    ∷ declare (codes "w") (to cap.Iso "N") (new_iso (codes "N") manager.Count)
-    ∷ enter (var "y") (codes "z") (block (swap (codes "w") (dot "z" "down") ∷ []))
+    (declare (codes "y") (to cap.Iso "N") (new_iso (codes "N") None manager.Arena)
+    ∷ declare (codes "w") (to cap.Iso "N") (new_iso (codes "N") None manager.Count)
+    ∷ enter (var "y") (codes "z") (block (swap (codes "w") (dot "z" "down") ∷ [])) None
     ∷ declare (codes "b") (to cap.Mut "N") (merge (codes "y"))
     ∷ enter (dot "b" "down") (codes "z")
-    (block (assign (dot "z" "v") (value (number (pos 3))) ∷ print (path (dot "z" "v")) ∷ [])) ∷ [])
+    (block (assign (dot "z" "v") (value (number (pos 3))) ∷ print (path (dot "z" "v")) ∷ [])) None ∷ [])
 
 merged_alone-text : Source
     ("class N { v: int; down: iso N; }"

@@ -3,7 +3,7 @@ use Rattle.std.proofs.Common.{◌≡◌, refl, sym, ◌∙◌, false, List, [], 
 use Rattle.rg_base.specs.declared.ty.Ty.{Ty}
 use Rattle.rg_base.specs.declared.ty.Ty.TheVariants.{Int, Bool}
 use Rattle.rg_base.specs.declared.fault.Code.TheVariants.{Unknown}
-use Rattle.rg_tree.specs.Tree.{Name, Variable, Expr, number, boolean, nil, path, is_nil, neg, not, binary, Class}
+use Rattle.rg_tree.specs.Tree.{Name, Variable, Expr, path, neg, not, binary, element, Class}
 use Rattle.rg_rules.specs.Capabilities.{is_iso}
 use Rattle.rg_rules.specs.Environment.{Env, Entry, entry_of, seen_type, available, used}
 use Rattle.rg_rules.specs.Expressions.{Judged, judge_path, among, operand_type, judge_expr}
@@ -11,7 +11,7 @@ use Rattle.rg_rules.specs.State.{Local}
 use Rattle.rg_rules.specs.Evaluation.{is_iso_local, uses_path, uses}
 use Rattle.rg_rules.proofs.Answers.{bind-ok, test-then, ok_or-ok}
 use Rattle.rg_rules.proofs.Expression.{against-ok, binary-ok, judge_expr-below, below-not_iso, operands-not_iso, judge_expr-env}
-use Rattle.rg_rules.proofs.Expression.{seen_type-is_iso}
+use Rattle.rg_rules.proofs.Expression.{seen_type-is_iso, element-ok, number-not_iso}
 
 -- the variables of a frame are declared `iso` where the entries of an environment are
 abbrev pub AgreeOnIso : Env → List Local → Type 0
@@ -50,4 +50,7 @@ judge_expr-uses classes env locals g w (binary op a b) j h n =
     let first = judge_expr-uses classes env locals g (operand_type (among op)) a p.l p.operands.left i.0 in
     let right = judge_expr-same classes env p.l.env (operand_type (among op)) b p.r same p.operands.right in
     let second = judge_expr-uses classes env locals g (operand_type (among op)) b p.r right i.1 in rw (first, second) refl
+judge_expr-uses classes env locals g w (element q e) j h n =
+    let p = element-ok classes env w q e j h in
+    judge_expr-uses classes env locals g (Some Int) e p.index p.judged (number-not_iso classes env e p.index p.judged)
 judge_expr-uses classes env locals g w _ j h n = refl

@@ -1,7 +1,7 @@
 -- What right sides and calls do in a step (docs/language.md, "Steps"). A class, a method or a region that isn't there changes nothing.
-use Rattle.std.specs.Prelude.{ℕ, nat_lt, pos, Bool as Truth, true, false, List, [], ◌∷◌, ◌++◌, length, map, flat_map, Option, Some, None, option_map}
-use Rattle.std.specs.Prelude.{Result, Ok, Err}
-use Rattle.rg_base.specs.declared.limits.TheConstants.{FRAMES}
+use Rattle.std.specs.Prelude.{ℕ, ℤ, suc, nat_lt, pos, negsuc, Bool as Truth, true, false, if◌then◌else◌, List, [], ◌∷◌, ◌++◌, length, map, flat_map}
+use Rattle.std.specs.Prelude.{replicate, Option, Some, None, option_map, Result, Ok, Err}
+use Rattle.rg_base.specs.declared.limits.TheConstants.{FRAMES, ARRAY_SIZE}
 use Rattle.rg_base.specs.declared.ty.Ty.TheVariants.{Ref}
 use Rattle.rg_base.specs.declared.words.Manager.{Manager}
 use Rattle.rg_base.specs.declared.object.Label.{Label}
@@ -10,16 +10,17 @@ use Rattle.rg_base.specs.declared.object.Seen.{Seen}
 use Rattle.rg_base.specs.declared.value.Val.{Val}
 use Rattle.rg_base.specs.declared.value.Val.TheVariants.{Nil, Int, Bool, Obj}
 use Rattle.rg_base.specs.declared.outcome.Trap.{Trap}
-use Rattle.rg_base.specs.declared.outcome.Trap.TheVariants.{Input, End, Depth}
+use Rattle.rg_base.specs.declared.outcome.Trap.TheVariants.{Input, End, Depth, Size}
 use Rattle.rg_base.specs.Input.{NextNumber, found, malformed, at_end, next_number}
-use Rattle.rg_tree.specs.Tree.{Param, Name, Variable, Ty as Written, int, bool, ref, Call, Right, value, new, new_tmp, new_iso, freeze, merge, read}
-use Rattle.rg_tree.specs.Tree.{more, result_of, Method, Class}
+use Rattle.rg_tree.specs.Tree.{Param, Name, Variable, Ty as Written, int, bool, ref, Expr, Call, Right, value, new, new_tmp, new_iso, freeze, merge}
+use Rattle.rg_tree.specs.Tree.{read, more, result_of, Method, Class}
 use Rattle.rg_rules.specs.Answers.{◌>>=◌, ◌>>◌, test}
 use Rattle.rg_rules.specs.Types.{class_named, class_number, type_of, fields_of, method_named}
 use Rattle.rg_rules.specs.Items.{items_of}
 use Rattle.rg_rules.specs.Bodies.{method_end}
 use Rattle.rg_rules.specs.State.{Local, Target, Frame, State, locals_of, with_top, value_in, put_local, active, top_number}
-use Rattle.rg_rules.specs.Evaluation.{object_at, path_value, values_of, uses, cleared, computed}
+use Rattle.rg_rules.specs.Values.{as_int}
+use Rattle.rg_rules.specs.Evaluation.{object_at, path_value, value_of, values_of, uses, cleared, computed}
 use Rattle.rg_rules.specs.Regions.{region_of, beneath, relabelled}
 
 -- what is done with a value, once it is computed
@@ -46,6 +47,39 @@ made classes s put x label = elim (class_named classes x) [
   | None ↦ s
   | Some c ↦ put (record s { store = s.store ++ new_object classes x label ∷ [] }) (Obj (length s.store))
 ]
+
+-- the number of elements that a number says, if an array can have so many
+abbrev pub size_within : ℤ → Result ℕ Trap
+size_within (pos n) = if nat_lt n (suc ARRAY_SIZE) then Ok n else Err Size
+size_within (negsuc n) = Err Size
+
+-- the number of elements that a value says
+abbrev pub array_size : Val → Result ℕ Trap
+array_size v = size_within (as_int v)
+
+-- the value with which an element starts, by its type; what isn't the element of an array class is nil
+abbrev pub opening_element : Option Written → Val
+opening_element None = Nil
+opening_element (Some t) = opening_value t
+
+-- a new array of a class with so many elements
+abbrev pub new_array : List Class → Name → Class → (size : ℕ) → Label → Seen
+new_array classes x c n label = record { class = class_number classes x; fields = replicate n (opening_element c.element); label = label }
+
+-- a new array at the end of the store, behind its size, which uses no variable up: numbers are never `iso`
+abbrev pub made_array : List Class → State → Use → Name → (size : Expr) → Label → Result State Trap
+made_array classes s put x e label = elim (class_named classes x) [
+  | None ↦ Ok s
+  | Some c ↦ do
+    v ← value_of classes s.store (locals_of s) e
+    n ← array_size v
+    Ok (put (record s { store = s.store ++ new_array classes x c n label ∷ [] }) (Obj (length s.store)))
+]
+
+-- a new object, or a new array where a size stands
+abbrev pub made_new : List Class → State → Use → Name → (size : Option Expr) → Label → Result State Trap
+made_new classes s put x None label = Ok (made classes s put x label)
+made_new classes s put x (Some e) label = made_array classes s put x e label
 
 -- a new region with its manager, and then what is done with a value
 abbrev pub with_region : Manager → Use → Use
@@ -110,9 +144,9 @@ abbrev pub with_right : List Class → State → Target → Use → Right → Re
 with_right classes s target put (value e) = do
   done ← computed classes s e
   Ok (put done.0 done.1)
-with_right classes s target put (new x) = Ok (made classes s put x (Region (active s.windows)))
-with_right classes s target put (new_tmp x) = Ok (made classes s put x (Temp (top_number s.windows)))
-with_right classes s target put (new_iso x m) = Ok (made classes s (with_region m put) x (Region (length s.managers)))
+with_right classes s target put (new x size) = made_new classes s put x size (Region (active s.windows))
+with_right classes s target put (new_tmp x size) = made_new classes s put x size (Temp (top_number s.windows))
+with_right classes s target put (new_iso x size m) = made_new classes s (with_region m put) x size (Region (length s.managers))
 with_right classes s target put (freeze y) = do
   o ← object_at s.store (value_in (locals_of s) (Some y))
   Ok (consumed s put (Some y) (option_map (frozen classes s) (region_of o.label)))

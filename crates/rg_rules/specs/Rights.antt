@@ -1,16 +1,16 @@
 -- Right sides: which statement has one, what it makes or calls, and its type with the environment after it, or the first code; calls likewise
 -- (docs/language.md, "Judgements").
-use Rattle.std.specs.Prelude.{◌==◌, List, [], ◌∷◌, length, Option, Some, None, ok_or, Ok}
+use Rattle.std.specs.Prelude.{◌==◌, not as negated, List, [], ◌∷◌, length, Option, Some, None, ok_or, Ok}
 use Rattle.rg_base.specs.declared.words.Cap.{Cap}
 use Rattle.rg_base.specs.declared.words.Cap.TheVariants.{Mut, Tmp, Imm, Iso}
 use Rattle.rg_base.specs.declared.ty.Ty.{Ty}
 use Rattle.rg_base.specs.declared.ty.Ty.TheVariants.{Int, Bool, Ref}
-use Rattle.rg_base.specs.declared.fault.Code.TheVariants.{Unknown, Mismatch, Unavailable, Capability, Arity}
+use Rattle.rg_base.specs.declared.fault.Code.TheVariants.{Unknown, BadType, Mismatch, Unavailable, Capability, Arity}
 use Rattle.rg_tree.specs.Tree.{Name, ref, Expr, Call, Right, value, new, new_tmp, new_iso, freeze, merge, read, more, result_of, Class, StmtKind}
-use Rattle.rg_tree.specs.Tree.{declare, assign, call, swap, branch, while, enter, print, collect, return}
+use Rattle.rg_tree.specs.Tree.{declare, assign, assign_element, call, swap, branch, while, enter, print, collect, return}
 use Rattle.rg_rules.specs.Answers.{◌>>=◌, ◌>>◌, test, Answer}
 use Rattle.rg_rules.specs.Capabilities.{below, iso_class}
-use Rattle.rg_rules.specs.Types.{good_type, method_named, param_types, method_result}
+use Rattle.rg_rules.specs.Types.{good_type, names_array, method_named, param_types, method_result}
 use Rattle.rg_rules.specs.Environment.{Env, entry_of, is_ready, marked, gone}
 use Rattle.rg_rules.specs.Paths.{walk, follow}
 use Rattle.rg_rules.specs.Expressions.{Judged, against, judge_expr}
@@ -19,21 +19,22 @@ use Rattle.rg_rules.specs.Expressions.{Judged, against, judge_expr}
 abbrev pub right_of : StmtKind → Option Right
 right_of (declare x t r) = Some r
 right_of (assign p r) = Some r
+right_of (assign_element q e r) = Some r
 right_of (call c) = None
 right_of (swap y p) = None
 right_of (branch e first other) = None
 right_of (while e body) = None
-right_of (enter p z body) = None
+right_of (enter p z body giving) = None
 right_of (print e) = None
 right_of collect = None
 right_of (return e) = None
 
--- the class of which a right side makes an object by `new C`
+-- the class of which a right side makes an object by `new C` or `new C [e]`
 abbrev pub right_made : Right → Option Name
 right_made (value e) = None
-right_made (new x) = Some x
-right_made (new_tmp x) = None
-right_made (new_iso x m) = None
+right_made (new x size) = Some x
+right_made (new_tmp x size) = None
+right_made (new_iso x size m) = None
 right_made (freeze y) = None
 right_made (merge y) = None
 right_made read = None
@@ -43,9 +44,9 @@ right_made (result_of c) = None
 -- the call that a right side makes
 abbrev pub right_call : Right → Option Call
 right_call (value e) = None
-right_call (new x) = None
-right_call (new_tmp x) = None
-right_call (new_iso x m) = None
+right_call (new x size) = None
+right_call (new_tmp x size) = None
+right_call (new_iso x size m) = None
 right_call (freeze y) = None
 right_call (merge y) = None
 right_call read = None
@@ -76,11 +77,22 @@ judge_call classes env c = do
   out ← judge_args classes env (param_types classes m) c.args
   Ok (record { result = method_result classes m; env = out })
 
--- `new C`, `new tmp C`, `new iso C in M`: the class is known, and the capability goes with it
-abbrev pub judge_new : List Class → Env → (wanted : Ty) → Cap → Name → Answer Judged
-judge_new classes env wanted cap x = do
+-- the number of elements, which an array class has and no other class: the environment behind it
+abbrev pub judge_size : List Class → Env → Name → (size : Option Expr) → Answer Env
+judge_size classes env x None = do
+  test (negated (names_array classes x)) BadType
+  Ok env
+judge_size classes env x (Some e) = do
+  test (names_array classes x) BadType
+  j ← judge_expr classes env (Some Int) e
+  Ok j.env
+
+-- `new C`, `new tmp C`, `new iso C in M`, and with `[e]` behind C: the class is known, and the capability goes with it
+abbrev pub judge_new : List Class → Env → (wanted : Ty) → Cap → Name → (size : Option Expr) → Answer Judged
+judge_new classes env wanted cap x size = do
   t ← good_type classes (ref cap x)
-  against (Some wanted) t env
+  out ← judge_size classes env x size
+  against (Some wanted) t out
 
 -- `freeze y`, `merge y`: an `iso` variable is used up, and its object gets the capability
 abbrev pub judge_consumed : Env → (wanted : Ty) → Cap → Name → Answer Judged
@@ -93,9 +105,9 @@ judge_consumed env wanted cap y = do
 -- a right side, of which a type is expected
 abbrev pub judge_right : List Class → Env → (wanted : Ty) → Right → Answer Judged
 judge_right classes env wanted (value e) = judge_expr classes env (Some wanted) e
-judge_right classes env wanted (new x) = judge_new classes env wanted Mut x
-judge_right classes env wanted (new_tmp x) = judge_new classes env wanted Tmp x
-judge_right classes env wanted (new_iso x m) = judge_new classes env wanted Iso x
+judge_right classes env wanted (new x size) = judge_new classes env wanted Mut x size
+judge_right classes env wanted (new_tmp x size) = judge_new classes env wanted Tmp x size
+judge_right classes env wanted (new_iso x size m) = judge_new classes env wanted Iso x size
 judge_right classes env wanted (freeze y) = judge_consumed env wanted Imm y
 judge_right classes env wanted (merge y) = judge_consumed env wanted Mut y
 judge_right classes env wanted read = against (Some wanted) Int env

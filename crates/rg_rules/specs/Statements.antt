@@ -2,18 +2,18 @@
 use Rattle.std.specs.Prelude.{ℕ, Bool as Truth, true, false, not as negated, ◌||◌, List, [], ◌∷◌, Option, Some, None, is_some, ok_or, Ok, Err}
 use Rattle.rg_base.specs.declared.words.Cap.TheVariants.{Mut}
 use Rattle.rg_base.specs.declared.ty.Ty.{Ty}
-use Rattle.rg_base.specs.declared.ty.Ty.TheVariants.{Bool, Ref}
-use Rattle.rg_base.specs.declared.fault.Code.TheVariants.{Unknown, Duplicate, Mismatch, Unavailable, OutsideWindow, Loop, IsoField, Return}
-use Rattle.rg_base.specs.declared.fault.Code.TheVariants.{CallTarget}
-use Rattle.rg_tree.specs.Tree.{Name, Variable, Ty as Written, Path, Expr, Call, Right}
-use Rattle.rg_tree.specs.Tree.{Stmt, stmt, StmtKind, declare, assign, call, swap, branch, while, enter, print, collect, return, Else}
-use Rattle.rg_tree.specs.Tree.{no_else, otherwise, Block, empty as none, then as next, Class}
-use Rattle.rg_rules.specs.Answers.{◌>>=◌, ◌>>◌, test, Answer, Lined, at_line}
-use Rattle.rg_rules.specs.Capabilities.{is_iso, iso_class, same_type, stays_at_depth, printable}
+use Rattle.rg_base.specs.declared.ty.Ty.TheVariants.{Int, Bool, Ref}
+use Rattle.rg_base.specs.declared.fault.Code.TheVariants.{Unknown, Duplicate, Mismatch, Unavailable, Capability, OutsideWindow, Loop, IsoField}
+use Rattle.rg_base.specs.declared.fault.Code.TheVariants.{Return, CallTarget}
+use Rattle.rg_tree.specs.Tree.{Name, Variable, Ty as Written, Path, Expr, Call, Right, Stmt, stmt, StmtKind, declare, assign, assign_element, call}
+use Rattle.rg_tree.specs.Tree.{swap, branch, while, enter, print, collect, return, Else, no_else, otherwise, Block, empty as none, then as next}
+use Rattle.rg_tree.specs.Tree.{Class}
+use Rattle.rg_rules.specs.Answers.{◌>>=◌, ◌>>◌, test, Answer, Lined, Passed, at_line}
+use Rattle.rg_rules.specs.Capabilities.{is_iso, iso_class, same_type, stays_at_depth, may_write, printable}
 use Rattle.rg_rules.specs.Types.{good_type}
-use Rattle.rg_rules.specs.Environment.{Env, entry_of, visible, at_depth, with_variable, marked, is_ready, is_lent, ready, lent, deeper, closed}
-use Rattle.rg_rules.specs.Environment.{joined, covers}
-use Rattle.rg_rules.specs.Paths.{writable_field}
+use Rattle.rg_rules.specs.Environment.{Env, entry_of, visible, at_depth, seen_type, with_variable, marked, is_ready, is_lent, ready, lent, deeper}
+use Rattle.rg_rules.specs.Environment.{closed, joined, covers}
+use Rattle.rg_rules.specs.Paths.{walk_array, writable_field}
 use Rattle.rg_rules.specs.Expressions.{judge_expr}
 use Rattle.rg_rules.specs.Rights.{judge_call, judge_right, right_call}
 
@@ -43,6 +43,16 @@ judge_assign classes env x (f ∷ fs) r = do
   test (negated (is_iso t)) IsoField
   test (negated (is_call r)) CallTarget
   j ← judge_right classes env t r
+  Ok j.env
+
+-- `q[e] = r;`
+abbrev pub judge_assign_element : List Class → Env → Variable → List Name → Expr → Right → Answer Env
+judge_assign_element classes env x fields e r = do
+  a ← walk_array classes env x fields
+  test (may_write a.receiver) Capability
+  test (negated (is_call r)) CallTarget
+  i ← judge_expr classes env (Some Int) e
+  j ← judge_right classes i.env a.ty r
   Ok j.env
 
 -- `call q.m(a, b);`, of which nothing is expected
@@ -86,6 +96,14 @@ judge_enter classes env x (f ∷ fs) z = do
   test (negated (visible env (Some z))) Duplicate
   Ok (with_variable (deeper env) (Some z) (Ref Mut c) true)
 
+-- what `giving w` asks at the end of the block of an `enter`: w is seen as z is declared, which is the bridge
+abbrev pub judge_giving : Env → (z : Name) → (giving : Option Name) → Answer Passed
+judge_giving env z None = Ok tt
+judge_giving env z (Some w) = do
+  e ← ok_or (entry_of env (Some w)) Unknown
+  bridge ← ok_or (entry_of env (Some z)) Unknown
+  test (same_type (seen_type env e) bridge.ty) Mismatch
+
 -- the environment behind an `enter`: the variable that was entered is ready again
 abbrev pub left : Variable → List Name → Env → Env
 left x [] env = marked x ready env
@@ -119,6 +137,7 @@ abbrev mutual
   pub judge_kind : List Class → (last : Option Ty) → (line : ℕ) → Env → StmtKind → Lined Env
   judge_kind classes last line env (declare x t r) = at_line line (judge_declare classes env x t r)
   judge_kind classes last line env (assign p r) = at_line line (judge_assign classes env p.base p.fields r)
+  judge_kind classes last line env (assign_element q e r) = at_line line (judge_assign_element classes env q.base q.fields e r)
   judge_kind classes last line env (call c) = at_line line (judge_call_alone classes env c)
   judge_kind classes last line env (swap y p) = at_line line (judge_swap classes env y p)
   judge_kind classes last line env (branch e first other) = do
@@ -131,9 +150,10 @@ abbrev mutual
     out ← judge_block classes None front body
     at_line line (test (covers env out) Loop)
     Ok env
-  judge_kind classes last line env (enter p z body) = do
+  judge_kind classes last line env (enter p z body giving) = do
     front ← at_line line (judge_enter classes env p.base p.fields z)
     out ← judge_block classes None front body
+    at_line line (judge_giving out z giving)
     Ok (left p.base p.fields (closed env out))
   judge_kind classes last line env (print e) = at_line line (judge_print classes env e)
   judge_kind classes last line env collect = Ok env

@@ -8,7 +8,7 @@ use Rattle.rg_base.specs.declared.outcome.Outcome.TheVariants as outcome
 use Rattle.rg_base.specs.declared.outcome.Trap.{Trap}
 use Rattle.rg_base.specs.declared.words.Manager.{Manager}
 use Rattle.rg_base.specs.declared.words.Manager.TheVariants.{Count, Trace}
-use Rattle.rg_tree.specs.Tree.{stmt, StmtKind, declare, assign, Class}
+use Rattle.rg_tree.specs.Tree.{stmt, StmtKind, declare, assign, assign_element, Class}
 use Rattle.rg_tree.specs.Rows.Tables.{Tables}
 use Rattle.rg_tree.specs.Rows.RowTrees.{program_of}
 use Rattle.rg_rules.specs.Outside.Asks.{asks, asks_then, asks_after, asks_on, asks_from, item_makes, is_managed, kind_makes}
@@ -156,10 +156,11 @@ paced-none : (makes : Bool) → paced makes ≡ None → makes ≡ false
 paced-none true undue = cc
 paced-none false undue = refl
 
--- a step that may collect for no cause makes no object by `new C`
+-- a step that may collect for no cause makes no object by `new C` or `new C [e]`
 undue-kind : (classes : List Class) (k : StmtKind) → kind_due classes k ≡ None → kind_makes classes k ≡ false
 undue-kind classes (declare x t r) undue = paced-none (kind_makes classes (declare x t r)) undue
 undue-kind classes (assign p r) undue = paced-none (kind_makes classes (assign p r)) undue
+undue-kind classes (assign_element q e r) undue = paced-none (kind_makes classes (assign_element q e r)) undue
 undue-kind classes _ undue = refl
 
 undue-makes : (classes : List Class) (items : List Item) → first_due classes items ≡ None → first_makes classes items ≡ false

@@ -25,7 +25,8 @@ pub record IsSound (t : Tree) (input : List ℕ) (n : ℕ) : Type 0 where
   pub none_stale : (k : ℕ) → k ≤ n → NoneStale t.classes (plain t input k).state
   -- the regions are a forest: each live one but the first, so each closed one, has exactly one owning reference
   pub forest : (k : ℕ) → k ≤ n → LiveFit t.classes (plain t input k).state
-  -- beside variables, the step wrote only into objects of the active region and temporaries of the topmost window
+  -- beside variables, the step wrote only into objects of the active region and temporaries of the topmost window; one that ended a window with
+  -- `giving`, into the object at the place of that window's owner alone
   pub writes : (k : ℕ) → k < n → Allowed (plain t input k).state (plain t input (k + 1)).state
 
 -- The objects that a machine holds beside a state. Each is the state's object of its serial, and is held there too, so what no window and no

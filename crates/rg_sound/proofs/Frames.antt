@@ -7,6 +7,7 @@ pub mod Entry
 pub mod JudgeRight
 pub mod Judge
 pub mod Spot
+pub mod Below
 pub mod SpotEnd
 pub mod SpotReturn
 pub mod Method

@@ -1,6 +1,6 @@
 -- In a state that fits no held reference is stale, and each live region but the first has one owner. For callers.
 use Rattle.std.proofs.Common.{◌≡◌, ◌≢◌, refl, sym, ◌∙◌, ap, subst, inl, inr, ℕ, zero, suc, ◌==◌, Bool as Truth, true, false, if◌then◌else◌, List, []}
-use Rattle.std.proofs.Common.{◌∷◌, length, map, Option, Some, option_and_then, slice_get, arith}
+use Rattle.std.proofs.Common.{◌∷◌, length, map, Option, Some, None, option_and_then, slice_get, arith}
 use Rattle.std.proofs.lemmas.Option.{same_Some}
 use Rattle.std.proofs.lemmas.Bool.{eqb-false}
 use Rattle.rg_base.specs.declared.words.Cap.{Cap}
@@ -15,13 +15,13 @@ use Rattle.rg_base.specs.declared.object.Seen.{Seen}
 use Rattle.rg_base.specs.declared.value.Val.{Val}
 use Rattle.rg_base.specs.declared.value.Val.TheVariants as val
 use Rattle.rg_tree.specs.Tree.{Field as FieldOfClass, Class, Tree}
-use Rattle.rg_rules.specs.Types.{type_of, fields_of}
+use Rattle.rg_rules.specs.Types.{type_of}
 use Rattle.rg_rules.specs.State.{Local, Frame, Window, State, frame_at}
-use Rattle.rg_rules.specs.Regions.{region_of, region_at, owned}
+use Rattle.rg_rules.specs.Regions.{region_of, region_at, owned, owned_as}
 use Rattle.rg_rules.specs.Owners.{owned_by_local, owned_by_slot, owned_by_field, leads_into}
 use Rattle.rg_sound.specs.Windows.{windows_of, windows_from, IsOpen}
 use Rattle.rg_sound.specs.Values.{LabelFits, MeetsBy, Meets, FrameMeets, ValuesFit}
-use Rattle.rg_sound.specs.Objects.{TempFieldFits, FieldFits, FieldsMeet}
+use Rattle.rg_sound.specs.Objects.{TempFieldFits, FieldFits, FieldsMeet, fields_in}
 use Rattle.rg_sound.specs.OpenRegions.{IsNear, AllOwned}
 use Rattle.rg_sound.specs.Fit.{Fit}
 use Rattle.rg_sound.specs.Held.{IsLive, HoldsLabel, IsHeld, InHeld, InStore, NoneStale, OwnedOnce, LiveFit}
@@ -29,6 +29,7 @@ use Rattle.rg_sound.specs.Laws.{FitHolds}
 use Rattle.rg_sound.proofs.Basics.{none-some}
 use Rattle.rg_sound.proofs.Owners.Owner.{frame_at-top, frame_at-lower}
 use Rattle.rg_sound.proofs.Values.Label.{windows_of-open, windows_from-open}
+use Rattle.rg_sound.proofs.Values.Declared.{owned-declared}
 use Rattle.rg_sound.proofs.Owners.Data.{Within, meets-within}
 use Rattle.rg_sound.proofs.Owners.Open.{IsOpenIn}
 use Rattle.rg_sound.proofs.Stores.Member.{In, among-in}
@@ -151,16 +152,21 @@ module _ (t : Tree) (s : State) (fit : Fit t s) where
           slice_get o.fields k ≡ Some (val.Obj b) → IsHeld t.classes s b
       fields a k o b there held is = by_label o.label refl held
         where
-          m : SlotMeets t.classes s.store (FieldFits s.windows o.label) (fields_of t.classes o.class) k (val.Obj b)
-          m = slot-meets t.classes s.store (FieldFits s.windows o.label) (fields_of t.classes o.class) o.fields k (val.Obj b)
+          m : SlotMeets t.classes s.store (FieldFits s.windows o.label) (fields_in t.classes (fit.objects a o there).class o) k (val.Obj b)
+          m = slot-meets t.classes s.store (FieldFits s.windows o.label) (fields_in t.classes (fit.objects a o there).class o) o.fields k (val.Obj b)
               (fit.objects a o there).fields is
 
           slot : (r : ℕ) → option_and_then (region_at s.store) (owned (type_of t.classes m.field.ty) (val.Obj b)) ≡ Some r →
               option_and_then (region_at s.store) (owned_by_slot t.classes o k) ≡ Some r
-          slot r e =
-              ap (λ (q : Option FieldOfClass). option_and_then (region_at s.store)
-              (option_and_then (λ (g : FieldOfClass). option_and_then (λ v. owned (type_of t.classes g.ty) v) (slice_get o.fields k)) q)) m.field_is
-              ∙ ap (λ (q : Option Val). option_and_then (region_at s.store) (option_and_then (λ v. owned (type_of t.classes m.field.ty) v) q)) is ∙ e
+          slot r e = by (owned (type_of t.classes m.field.ty) (val.Obj b)) refl e
+            where
+              by : (x : Option ℕ) → owned (type_of t.classes m.field.ty) (val.Obj b) ≡ x → option_and_then (region_at s.store) x ≡ Some r →
+                  option_and_then (region_at s.store) (owned_by_slot t.classes o k) ≡ Some r
+              by None x y = none-some y
+              by (Some c) x y =
+                  ap (option_and_then (region_at s.store)) (owned-declared t.classes s.store s.windows o (fit.objects a o there) k c
+                  (ap (option_and_then (λ (g : FieldOfClass). option_and_then (owned_as t.classes g) (slice_get o.fields k))) m.field_is
+                  ∙ ap (option_and_then (owned_as t.classes m.field)) is ∙ x)) ∙ y
 
           -- what it owns lies in live regions, unless it is frozen
           live : (l : Label) → o.label ≡ l → (l ≢ Frozen) → HoldsLabel t.classes s o.label → (r : ℕ) →
@@ -242,7 +248,7 @@ in-store t s fit = record {
       let P : Val → Type 0 = λ q. Within (length s.store) q in
       subst P is (meets-within s.store _ l.ty l.value (values-at s.store s.windows s.frames n f fit.values at i l there));
   fields = λ a k o b there is.
-      let m = slot-meets t.classes s.store (FieldFits s.windows o.label) (fields_of t.classes o.class) o.fields k (val.Obj b)
+      let m = slot-meets t.classes s.store (FieldFits s.windows o.label) (fields_in t.classes (fit.objects a o there).class o) o.fields k (val.Obj b)
       (fit.objects a o there).fields is in
       meets-within s.store _ (type_of t.classes m.field.ty) (val.Obj b) m.meets;
 }

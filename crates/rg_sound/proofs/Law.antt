@@ -1,8 +1,8 @@
 -- Each step of an accepted program keeps the invariant, and so each state of each of its runs fits. For callers.
 use Rattle.std.proofs.Common.{◌≡◌, refl, sym, ap, subst, ℕ, zero, suc, ◌+◌, List, [], ◌∷◌, arith}
-use Rattle.rg_tree.specs.Tree.{stmt, StmtKind, declare, assign, call, swap, branch, while, enter, print, collect, return, Tree}
+use Rattle.rg_tree.specs.Tree.{stmt, StmtKind, declare, assign, assign_element, call, swap, branch, while, enter, print, collect, return, Tree}
 use Rattle.rg_rules.specs.Acceptance.{Accepted}
-use Rattle.rg_rules.specs.Items.{Item, Do, EndAt, LeaveAt, Back}
+use Rattle.rg_rules.specs.Items.{Item, Do, EndAt, LeaveAt, LeaveGiving, Back}
 use Rattle.rg_rules.specs.State.{State}
 use Rattle.rg_rules.specs.Steps.{Stepped, Went, Trapped, step_item, step_first, next}
 use Rattle.rg_rules.specs.Runs.{Ran, after_step, run_on, plain_from, opening, plain}
@@ -14,13 +14,14 @@ use Rattle.rg_sound.proofs.Opening.{opening-fits}
 use Rattle.rg_sound.proofs.Frames.Quiet.{allowed-same, went_is, collect-keeps, print-keeps}
 use Rattle.rg_sound.proofs.Frames.End.{end-keeps}
 use Rattle.rg_sound.proofs.Owners.Leave.{leave-keeps}
+use Rattle.rg_sound.proofs.Owners.LeaveGiving.{leave_giving-keeps}
 use Rattle.rg_sound.proofs.Owners.Enter.{enter-keeps}
 use Rattle.rg_sound.proofs.Frames.Test.{branch-keeps, while-keeps}
 use Rattle.rg_sound.proofs.Values.Return.{return-keeps, back-keeps}
 use Rattle.rg_sound.proofs.Values.Invoke.{call-keeps}
 use Rattle.rg_sound.proofs.Owners.Swap.{swap-keeps}
 use Rattle.rg_sound.proofs.Held.{fit-holds}
-use Rattle.rg_sound.proofs.Taken.{declare-keeps, assign-keeps}
+use Rattle.rg_sound.proofs.Taken.{declare-keeps, assign-keeps, assign_element-keeps}
 
 -- where nothing happens
 pub still-kept : (t : Tree) (s u : State) → Fit t s → s ≡ u → StaysFit t s u
@@ -29,11 +30,12 @@ still-kept t s u f e = let P : State → Type 0 = λ q. StaysFit t s q in subst 
 kind-keeps : (k : StmtKind) → KindKeeps k
 kind-keeps (declare x ty r) = declare-keeps x ty r
 kind-keeps (assign p r) = assign-keeps p r
+kind-keeps (assign_element q e r) = assign_element-keeps q e r
 kind-keeps (call c) = call-keeps c
 kind-keeps (swap y p) = swap-keeps y p
 kind-keeps (branch e b other) = branch-keeps e b other
 kind-keeps (while e b) = while-keeps e b
-kind-keeps (enter p z b) = enter-keeps p z b
+kind-keeps (enter p z b giving) = enter-keeps p z b giving
 kind-keeps (print e) = print-keeps e
 kind-keeps collect = collect-keeps
 kind-keeps (return e) = return-keeps e
@@ -42,6 +44,7 @@ item-keeps : (i : Item) → ItemKeeps i
 item-keeps (Do (stmt line k)) = kind-keeps k line
 item-keeps (EndAt k) = end-keeps k
 item-keeps (LeaveAt k) = leave-keeps k
+item-keeps (LeaveGiving line k w) = leave_giving-keeps line k w
 item-keeps Back = back-keeps
 
 pub step-keeps : StepKeepsFit

@@ -15,13 +15,13 @@ use Rattle.rg_base.specs.declared.object.Seen.{Seen}
 use Rattle.rg_base.specs.declared.value.Val.{Val}
 use Rattle.rg_base.specs.declared.value.Val.TheVariants as val
 use Rattle.rg_tree.specs.Tree.{Field as FieldOfClass, Class, Tree}
-use Rattle.rg_rules.specs.Types.{type_of, fields_of}
+use Rattle.rg_rules.specs.Types.{type_of}
 use Rattle.rg_rules.specs.State.{Local, Frame, Window, State, frame_at, active}
-use Rattle.rg_rules.specs.Regions.{region_of, region_at, owned}
+use Rattle.rg_rules.specs.Regions.{region_of, region_at, owned, owned_as}
 use Rattle.rg_rules.specs.Owners.{owned_by_local, owned_by_slot, owned_by_field, owned_at, leads_into, Parent, Above, direct, further, is_temp_of}
 use Rattle.rg_sound.specs.Windows.{windows_of, windows_from, IsOpen}
 use Rattle.rg_sound.specs.Values.{LabelFits, MeetsBy, Meets, ValuesFit}
-use Rattle.rg_sound.specs.Objects.{RegionFieldFits, TempFieldFits, FieldFits, ObjectsFit}
+use Rattle.rg_sound.specs.Objects.{RegionFieldFits, TempFieldFits, FieldFits, fields_in, ObjectsFit}
 use Rattle.rg_sound.specs.OpenRegions.{AllOwned, OneWindowEach}
 use Rattle.rg_sound.specs.Numbers.{Rising}
 use Rattle.rg_sound.specs.Fit.{Fit}
@@ -33,6 +33,7 @@ use Rattle.rg_sound.proofs.Stores.Member.{In, among-in}
 use Rattle.rg_sound.proofs.Owners.Window.{rising-below}
 use Rattle.rg_sound.proofs.Held.{values-at, SlotMeets, slot-meets, from-open}
 use Rattle.rg_sound.proofs.Stores.MergeLabel.{open-in}
+use Rattle.rg_sound.proofs.Values.Declared.{owned-declared}
 
 -- Labels
 
@@ -152,10 +153,10 @@ module _ (classes : List Class) (store : List Seen) (frames : List Frame) (ws : 
       ∙ ap (option_and_then owned_by_local) there ∙ ap (owned l.ty) is
       ∙ iso-owned store (LabelFits (windows_of n i ws)) l.ty a r lies (closed-iso (windows_of n i ws) r away) (subst P is m)
 
-  pub field-meets : (b k : ℕ) (o : Seen) (v : Val) → slice_get store b ≡ Some o → slice_get o.fields k ≡ Some v →
-      SlotMeets classes store (FieldFits ws o.label) (fields_of classes o.class) k v
+  pub field-meets : (b k : ℕ) (o : Seen) (v : Val) (there : slice_get store b ≡ Some o) → slice_get o.fields k ≡ Some v →
+      SlotMeets classes store (FieldFits ws o.label) (fields_in classes (objects b o there).class o) k v
   field-meets b k o v there is =
-      slot-meets classes store (FieldFits ws o.label) (fields_of classes o.class) o.fields k v (objects b o there).fields is
+      slot-meets classes store (FieldFits ws o.label) (fields_in classes (objects b o there).class o) o.fields k v (objects b o there).fields is
 
   pub frozen-away : (b k : ℕ) (o : Seen) (a r : ℕ) → slice_get store b ≡ Some o → o.label ≡ Frozen → slice_get o.fields k ≡ Some (val.Obj a) →
       region_at store a ≡ Some r → ⊥
@@ -171,17 +172,17 @@ module _ (classes : List Class) (store : List Seen) (frames : List Frame) (ws : 
   field-owned b k o a r own there label away is lies f =
       ap (option_and_then (λ (z : Seen). owned_by_field classes z k)) there ∙ whole own label away ∙ slot
     where
-      m : SlotMeets classes store (FieldFits ws o.label) (fields_of classes o.class) k (val.Obj a)
+      m : SlotMeets classes store (FieldFits ws o.label) (fields_in classes (objects b o there).class o) k (val.Obj a)
       m = field-meets b k o (val.Obj a) there is
 
       P : Label → Type 0
       P q = MeetsBy store (FieldFits ws q) (type_of classes m.field.ty) (val.Obj a)
 
       slot : owned_by_slot classes o k ≡ Some a
-      slot =
-          ap (option_and_then (λ (g : FieldOfClass). option_and_then (λ v. owned (type_of classes g.ty) v) (slice_get o.fields k))) m.field_is
-          ∙ ap (option_and_then (λ v. owned (type_of classes m.field.ty) v)) is
-          ∙ iso-owned store (FieldFits ws own) (type_of classes m.field.ty) a r lies f (subst P label m.meets)
+      slot = owned-declared classes store ws o (objects b o there) k a
+          (ap (option_and_then (λ (g : FieldOfClass). option_and_then (owned_as classes g) (slice_get o.fields k))) m.field_is
+          ∙ ap (option_and_then (owned_as classes m.field)) is
+          ∙ iso-owned store (FieldFits ws own) (type_of classes m.field.ty) a r lies f (subst P label m.meets))
 
       whole : (own : Label) → o.label ≡ own → own ≢ Frozen → owned_by_field classes o k ≡ owned_by_slot classes o k
       whole (Region p) e away = rw (owned_by_field, e) refl

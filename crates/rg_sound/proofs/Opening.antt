@@ -1,20 +1,23 @@
 -- The opening state fits.
-use Rattle.std.proofs.Common.{◌≡◌, refl, sym, ◌∙◌, ℕ, zero, suc, List, [], ◌∷◌, Some, None, slice_get, inl, arith}
+use Rattle.std.proofs.Common.{◌≡◌, refl, sym, ◌∙◌, ap, ℕ, zero, suc, List, [], ◌∷◌, Some, None, slice_get, inl, arith}
 use Rattle.std.proofs.lemmas.List.{append-nil}
 use Rattle.rg_base.specs.declared.object.Place.{Place}
 use Rattle.rg_base.specs.declared.object.Place.TheVariants.{Var, Field}
-use Rattle.rg_tree.specs.Tree.{Tree, Block, empty as none, then as next}
+use Rattle.rg_tree.specs.Tree.{Class, Tree, Block, empty as none, then as next}
 use Rattle.rg_rules.specs.Environment.{empty}
 use Rattle.rg_rules.specs.Items.{Item, Do, EndAt, items_of}
 use Rattle.rg_rules.specs.Bodies.{main_body}
 use Rattle.rg_rules.specs.Points.{here, Spot}
-use Rattle.rg_rules.specs.State.{Drops, Window}
+use Rattle.rg_rules.specs.State.{Drops, Frame, Window}
 use Rattle.rg_rules.specs.Owners.{leads_into, Above, direct, further}
 use Rattle.rg_rules.specs.Runs.{opening}
 use Rattle.rg_sound.specs.Windows.{lowest}
 use Rattle.rg_sound.specs.Frames.{Stands}
 use Rattle.rg_sound.specs.OpenRegions.{OneWindowEach}
+use Rattle.rg_sound.specs.Bridges.{BridgesFit}
 use Rattle.rg_sound.specs.Numbers.{WindowGiven}
+use Rattle.rg_base.specs.declared.object.Seen.{Seen}
+use Rattle.std.proofs.lemmas.Option.{same_Some}
 use Rattle.rg_sound.specs.Fit.{Fit}
 use Rattle.rg_sound.proofs.Basics.{none-some}
 use Rattle.rg_sound.proofs.Frames.Spot.{leaves-items_of}
@@ -61,6 +64,11 @@ begins : (b : Block) (i : Item) (rest : List Item) → (first : Item) × (more :
 begins none i rest = (i, rest, refl)
 begins (next s b) i rest = (Do s, items_of b (i ∷ rest), refl)
 
+-- the lowest window has no owner
+no-bridge : {classes : List Class} {store : List Seen} {frames : List Frame} → BridgesFit classes store frames (lowest None 0 ∷ [])
+no-bridge zero w p at named = let same : lowest None 0 ≡ w = same_Some (lowest None 0) w at in none-some (ap (λ (q : Window). q.owner) same ∙ named)
+no-bridge (suc i) w p at named = none-some at
+
 -- the opening state of each program fits
 pub opening-fits : (t : Tree) (input : List ℕ) → Fit t (opening t input)
 unfolding start
@@ -84,6 +92,7 @@ opening-fits t input = record {
   values = (λ i l e. none-some e, tt);
   objects = λ a o e. none-some e;
   opened = record { owned = (refl, refl); one_each = one_window (lowest None 0) };
+  bridges = no-bridge;
   forest = record {
     one_owner = λ p q r e d. none-some (sym (no_owner t input p) ∙ e);
     none_into_first = λ p e. none-some (sym (no_owner t input p) ∙ e);

@@ -2,6 +2,7 @@
 pub mod Replace
 pub mod Store
 pub mod Field
+pub mod Element
 mod New
 pub mod Make
 pub mod MergeLabel

@@ -1,5 +1,6 @@
 -- What expressions, arguments and right sides compute to, and the variables that take it.
 pub mod Label
+pub mod Declared
 pub mod Value
 pub mod Right
 pub mod Local

@@ -2,10 +2,11 @@
 //! that fits, where the step goes well, it leaves one that fits and writes only where it may
 //! (docs/language.md, "What always holds").
 
-ghost use Rattle.rg_sound.specs.Laws.{DeclareKeeps, AssignKeeps, CallKeeps, SwapKeeps};
+ghost use Rattle.rg_sound.specs.Laws.{DeclareKeeps, AssignKeeps, AssignElementKeeps};
+ghost use Rattle.rg_sound.specs.Laws.{CallKeeps, SwapKeeps};
 ghost use Rattle.rg_sound.specs.Laws.{BranchKeeps, WhileKeeps, EnterKeeps};
 ghost use Rattle.rg_sound.specs.Laws.{PrintKeeps, CollectKeeps, ReturnKeeps};
-ghost use Rattle.rg_sound.specs.Laws.{EndKeeps, LeaveKeeps, BackKeeps};
+ghost use Rattle.rg_sound.specs.Laws.{EndKeeps, LeaveKeeps, LeaveGivingKeeps, BackKeeps};
 
 /// `let x: T = r;`
 pub fn declare_keeps_fit()
@@ -15,6 +16,11 @@ pub fn declare_keeps_fit()
 /// `x = r;` and `q.f = r;`
 pub fn assign_keeps_fit()
     ensures { AssignKeeps }
+{}
+
+/// `q[e] = r;`
+pub fn assign_element_keeps_fit()
+    ensures { AssignElementKeeps }
 {}
 
 /// `call q.m(a, b);`
@@ -37,7 +43,7 @@ pub fn while_keeps_fit()
     ensures { WhileKeeps }
 {}
 
-/// `enter q as z { .. }`
+/// `enter q as z { .. }` and `enter q as z { .. } giving w;`
 pub fn enter_keeps_fit()
     ensures { EnterKeeps }
 {}
@@ -65,6 +71,11 @@ pub fn end_keeps_fit()
 /// The end of the block of an `enter`.
 pub fn leave_keeps_fit()
     ensures { LeaveKeeps }
+{}
+
+/// The end of the block of an `enter` with `giving w`.
+pub fn leave_giving_keeps_fit()
+    ensures { LeaveGivingKeeps }
 {}
 
 /// The end of a method without a result.

@@ -73,6 +73,10 @@ with_operands (i.Enter s z) ps = i.Enter (number (first ps)) (number (second ps)
 with_operands (i.EnterField k z) ps = i.EnterField (number (first ps)) (number (second ps))
 with_operands (i.Leave s) ps = i.Leave (number (first ps))
 with_operands (i.End s) ps = i.End (number (first ps))
+with_operands (i.NewArray c) ps = i.NewArray (number (first ps))
+with_operands (i.NewTmpArray c) ps = i.NewTmpArray (number (first ps))
+with_operands (i.NewIsoArray c m) ps = i.NewIsoArray (number (first ps)) (manager (second ps))
+with_operands (i.LeaveGiving w z) ps = i.LeaveGiving (number (first ps)) (number (second ps))
 with_operands o ps = o
 
 -- the instruction with a number and operands, if the number is one's

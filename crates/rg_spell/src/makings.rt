@@ -7,9 +7,8 @@ ghost use Rattle.rg_spell.specs.Makings as makings;
 use rg_base::Manager;
 use rg_code::{Op, Operand, Operands};
 
-/// An instruction of each name, at the place of its number. Instructions on arrays will come behind
-/// them, and the one that gives a region back where its window ends.
-pub(crate) const BLANKS: [Op; 51] = [
+/// An instruction of each name, at the place of its number.
+pub(crate) const BLANKS: [Op; 59] = [
     Op::Mark { line: 0 },
     Op::Int { value: 0 },
     Op::Bool { value: false },
@@ -67,6 +66,17 @@ pub(crate) const BLANKS: [Op; 51] = [
     Op::Pop,
     Op::Drop,
     Op::Halt,
+    Op::NewArray { class: 0 },
+    Op::NewTmpArray { class: 0 },
+    Op::NewIsoArray {
+        class: 0,
+        manager: Manager::Arena,
+    },
+    Op::Size,
+    Op::Bound,
+    Op::Element,
+    Op::PutElement,
+    Op::LeaveGiving { given: 0, slot: 0 },
 ];
 
 // The instruction at a place.
@@ -211,6 +221,16 @@ pub(crate) fn with_operands(op: Op, operands: Operands) -> Op
         },
         Op::Leave { .. } => Op::Leave { slot: number(a) },
         Op::End { .. } => Op::End { slot: number(a) },
+        Op::NewArray { .. } => Op::NewArray { class: number(a) },
+        Op::NewTmpArray { .. } => Op::NewTmpArray { class: number(a) },
+        Op::NewIsoArray { .. } => {
+            let (class, manager) = (number(a), manager(b));
+            Op::NewIsoArray { class, manager }
+        }
+        Op::LeaveGiving { .. } => Op::LeaveGiving {
+            given: number(a),
+            slot: number(b),
+        },
         other => other,
     }
 }

@@ -3,3 +3,4 @@ pub mod Instructions
 pub mod Programs
 pub mod Steps
 pub mod Needed
+pub mod Arrays

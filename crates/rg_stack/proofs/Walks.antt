@@ -1,4 +1,5 @@
 -- Walks along code, given what instructions need or not.
+pub mod Index
 pub mod Walk
 pub mod Slot
 pub mod Place

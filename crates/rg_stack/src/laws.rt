@@ -32,7 +32,7 @@ pub fn steps_ask()
 {}
 
 /// Where a step begins, its code may collect exactly where the first thing to do may: where that is
-/// `collect`, or makes an object by `new C`.
+/// `collect`, or makes an object by `new C` or `new C [e]`.
 pub fn steps_due()
     ensures { StepsDue }
 {}

@@ -7,4 +7,6 @@ mod Frees
 mod Held
 mod One
 mod Slides
+mod Giving
 mod Write
+mod WriteExamples

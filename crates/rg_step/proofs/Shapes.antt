@@ -8,3 +8,5 @@ pub mod Leaping
 pub mod Field
 pub mod Word
 pub mod Pass
+pub mod Reached
+pub mod Element

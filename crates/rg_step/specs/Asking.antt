@@ -23,12 +23,12 @@ abbrev pub raised_if : Truth → ℕ → ℕ
 raised_if true n = one_more n
 raised_if false n = n
 
--- whether the first thing to do makes an object by `new C`
+-- whether the first thing to do makes an object by `new C` or `new C [e]`
 abbrev pub first_makes : List Class → List Item → Truth
 first_makes classes [] = false
 first_makes classes (i ∷ rest) = item_makes classes i
 
--- whether the step from a state asks the pacer of a manager: it makes an object by `new C` while the active region has that manager
+-- whether the step from a state asks the pacer of a manager: it makes an object by `new C` or `new C [e]` while the active region has that manager
 abbrev pub asks_at : List Class → Manager → State → Truth
 asks_at classes m s = first_makes classes s.items && is_managed m s
 

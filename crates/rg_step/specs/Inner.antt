@@ -6,3 +6,4 @@ pub mod Held
 pub mod Serving
 pub mod High
 pub mod Fields
+pub mod Elements

@@ -64,8 +64,9 @@ pub record OneStep (code : Code) (old new : Standing) (result : Outcome) (before
   pub asked : AsksOn code (machine_in old.stepper.parts) result old.pacers new.pacers
   pub yeses : (behind : List Event) × (new.stepper.events ≡ old.stepper.events ++ behind) × YesesTold behind old.pacers new.pacers
       × SinceOn code (machine_in old.stepper.parts) result behind old.stepper.since new.stepper.since
-  -- it writes into objects of the active region and temporaries of the topmost window alone
-  pub writes : WritesOnly (machine_in old.stepper.parts) (machine_in new.stepper.parts)
+  -- it writes into objects of the active region and temporaries of the topmost window alone; where it ends that window with `giving`, at most the
+  -- field at the place of the window's owner
+  pub writes : WritesOnly code.ops (machine_in old.stepper.parts) (machine_in new.stepper.parts)
   pub high : Raises result old.stepper.parts new.stepper.parts
   pub counts : Counts old.stepper.steps new.stepper.steps result
 

@@ -9,6 +9,7 @@
 mod asks;
 mod calls;
 mod collecting;
+mod elements;
 mod fields;
 mod kept;
 mod leap;

@@ -1,6 +1,6 @@
 //! The store of objects of a machine (docs/language.md, "Steps"): objects and their fields by names
-//! and by numbers, labels, the regions beneath one, and operators on values. Its clauses speak of
-//! the store that is shown (`store_of`), in the words of `rg_rules`.
+//! and by numbers, arrays and their elements, labels, the regions beneath one, and operators on
+//! values. Its clauses speak of the store that is shown (`store_of`), in the words of `rg_rules`.
 #![tactic(auto)]
 
 mod labels;
@@ -11,9 +11,10 @@ mod objects;
 mod operators;
 
 pub use labels::{Regions, region, region_at, region_led, relabel};
-pub use made::{new_object, push_object};
+pub use made::{new_array, new_object, push_object};
 pub use marks::{beneath, beneath_by_labels, linked};
 pub use objects::{
-    ObjectRow, field_at, field_value, follow, object_place, read_at, write_at, write_field,
+    ObjectRow, element_place, element_value, field_at, field_value, follow, object_place, read_at,
+    write_at, write_field,
 };
 pub use operators::{as_bool, as_int, decides, is_nil, negative, operate};

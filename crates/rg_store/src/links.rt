@@ -110,7 +110,7 @@ fn add_links(
         (owned_in classes (fields_of classes object.now.class) object.now.fields.items)) }
 {
     let row = book.class(object.class);
-    let numbers = book.order(row.members);
+    let numbers = book.members_of(row);
     let mut before = 0;
     for member in numbers {
         before = add_member(book, store, &object.fields, links, *member, before)?;

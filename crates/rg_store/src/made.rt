@@ -1,13 +1,14 @@
-//! New objects: of a class, whose fields start as 0, false and nil, or with fields that are given
-//! (docs/language.md, "Steps").
+//! New objects: of a class, whose fields start as 0, false and nil, or with fields that are given;
+//! and new arrays, whose elements start so (docs/language.md, "Steps").
 
-ghost use Rattle.std.specs.Prelude.{◌++◌, ◌<◌, ◌∷◌, ◌≡◌, [], IfOk, OnErr, OnOk, length, map, ℕ};
+ghost use Rattle.std.specs.Prelude.{◌++◌, ◌<◌, ◌∷◌, ◌≡◌, [], IfOk, OnErr, OnOk, length, map};
+ghost use Rattle.std.specs.Prelude.{option_map, ℕ};
 ghost use Rattle.rg_tree.specs.Rows.RowTrees.{classes_of, type_of};
 ghost use Rattle.rg_tree.specs.Rows.Tables.{Tables};
-ghost use Rattle.rg_rules.specs.RightSides.{opening_value};
+ghost use Rattle.rg_rules.specs.RightSides.{opening_element, opening_value};
 ghost use Rattle.rg_rules.specs.Types.{fields_of};
 ghost use Rattle.rg_store.specs.Regions.{LabelFits, LabelsFit};
-ghost use Rattle.rg_store.specs.Shown.{object_of, opened_as, seen_of, store_of};
+ghost use Rattle.rg_store.specs.Shown.{array_as, object_of, opened_as, seen_of, store_of};
 
 use crate::objects::ObjectRow;
 use rg_base::{Label, Memory, Val};
@@ -62,7 +63,7 @@ fn opening_fields(alloc: Global, book: &Book, class: u32) -> Result<Vec<Val>, Me
 {
     let mut fields = Vec::new(alloc);
     let row = book.class(class);
-    let numbers = book.order(row.members);
+    let numbers = book.members_of(row);
     for member in numbers {
         match book.member(*member) {
             MemberRow::Field { ty, .. } => {
@@ -84,6 +85,40 @@ pub fn new_object(alloc: Global, book: &Book, class: u32, label: Label) -> Resul
     ensures class { IfOk result (λ o. o.class ≡ class) }
 {
     let fields = opening_fields(alloc, book, class)?;
+    Ok(ObjectRow {
+        class,
+        fields,
+        label,
+    })
+}
+
+/// The value with which an element of a class starts, by its type.
+fn opening_element(element: Option<TypeRow>) -> Val
+    ensures { (t : Tables) → result ≡ opening_element (option_map (type_of t) element) }
+{
+    match element {
+        None => Val::Nil,
+        Some(ty) => opening_value(ty),
+    }
+}
+
+/// A new array of a class, of so many elements.
+pub fn new_array(
+    alloc: Global,
+    book: &Book,
+    class: u32,
+    size: u32,
+    label: Label,
+) -> Result<ObjectRow, Memory>
+    requires class { class < length (classes_of book.now.program) }
+    ensures shown { IfOk result (λ o. seen_of o ≡ array_as (classes_of book.now.program) class size
+        label) }
+    ensures class { IfOk result (λ o. o.class ≡ class) }
+{
+    let opening = opening_element(book.class(class).element);
+    let Ok(fields) = vec![in alloc; opening; size as usize] else {
+        return Err(Memory);
+    };
     Ok(ObjectRow {
         class,
         fields,

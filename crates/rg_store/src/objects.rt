@@ -1,17 +1,19 @@
 //! Objects: what a value leads to, and fields by their names and by their numbers, read and written
 //! (docs/language.md, "Steps").
 
-ghost use Rattle.std.specs.Prelude.{◌<◌, ◌≡◌, All, Some, length, map, slice_get, slice_set};
-ghost use Rattle.std.specs.Prelude.{unwrap_or, ℕ};
+ghost use Rattle.std.specs.Prelude.{◌<◌, ◌≡◌, All, IfOk, IfSome, Some, length, map, slice_get};
+ghost use Rattle.std.specs.Prelude.{slice_set, unwrap_or, ℕ};
 ghost use Rattle.rg_base.specs.declared.object.Seen.{Seen};
 ghost use Rattle.rg_tree.specs.Rows.RowTrees.{classes_of};
 ghost use Rattle.rg_tree.specs.Rows.RowsExist.{IsNameIn};
-ghost use Rattle.rg_tree.specs.Rows.Tables.{name_at};
-ghost use Rattle.rg_rules.specs.Evaluation.{field_value, follow_fields, with_field};
+ghost use Rattle.rg_tree.specs.Rows.Tables.{Tables, name_at};
+ghost use Rattle.rg_rules.specs.Evaluation.{element_place, element_value, field_value};
+ghost use Rattle.rg_rules.specs.Evaluation.{follow_fields, place_among, with_field};
 ghost use Rattle.rg_store.specs.Read.{LeadsTo, field_behind, value_at, value_behind, with_value_at};
 ghost use Rattle.rg_store.specs.Regions.{LabelsFit};
 ghost use Rattle.rg_store.specs.Shown.{AreOfClasses, seen_of, store_of};
 
+use crate::operators::as_int;
 use rg_base::{Label, Trap, Val};
 use rg_names::Book;
 
@@ -57,6 +59,37 @@ pub fn read_at(store: &[ObjectRow], v: Val, index: u32) -> Result<Val, Trap>
     Ok(field_at(&store[place], index))
 }
 
+/// The place of the element that a value names; one that isn't there traps.
+pub fn element_place(object: &ObjectRow, v: Val) -> Result<usize, Trap>
+    ensures is { result ≡ element_place (seen_of object.now) v }
+    ensures within { IfOk result (λ k. k < length object.now.fields.items) }
+{
+    match place_among(object.fields.len(), as_int(v)) {
+        Some(place) => Ok(place),
+        None => Err(Trap::Index),
+    }
+}
+
+/// The place that a number names among so many.
+fn place_among(many: usize, number: i64) -> Option<usize>
+    ensures is { result ≡ place_among many number }
+    ensures within { IfSome result (λ k. k < many) }
+{
+    if number < 0 {
+        return None;
+    }
+    let place = number as usize;
+    if place < many { Some(place) } else { None }
+}
+
+/// The value of the element that a value names; one that isn't there traps.
+pub fn element_value(object: &ObjectRow, v: Val) -> Result<Val, Trap>
+    ensures { result ≡ element_value (seen_of object.now) v }
+{
+    let place = element_place(object, v)?;
+    Ok(object.fields[place])
+}
+
 /// The value in the field of a name, or nil where there is none.
 pub fn field_value(book: &Book, object: &ObjectRow, name: u32) -> Val
     requires class { object.now.class < length (classes_of book.now.program) }
@@ -95,23 +128,22 @@ pub fn follow(book: &Book, store: &[ObjectRow], from: Val, fields: &[u32]) -> Re
     Ok(value)
 }
 
-/// Writes an element, where there is one.
-fn set_element(fields: &mut [Val], place: u32, v: Val)
+/// Writes the value at a place, where there is one.
+fn set_value(fields: &mut [Val], place: usize, v: Val)
     ensures { fields.new ≡ slice_set fields.old place v }
 {
-    let k = place as usize;
-    if k < fields.len() {
-        fields[k] = v;
+    if place < fields.len() {
+        fields[place] = v;
     }
 }
 
-/// Writes the field of a number, where there is one.
-fn set_field(object: &mut ObjectRow, index: u32, v: Val)
+/// Writes the field or the element of a number, where there is one.
+fn set_field(object: &mut ObjectRow, index: usize, v: Val)
     ensures written { seen_of object.new ≡ with_value_at index v (seen_of object.old) }
     ensures class { object.new.class ≡ object.old.class }
     ensures label { object.new.label ≡ object.old.label }
 {
-    set_element(&mut object.fields, index, v);
+    set_value(&mut object.fields, index, v);
 }
 
 /// Writes the field of a name, where there is one.
@@ -124,7 +156,7 @@ fn write(book: &Book, object: &mut ObjectRow, name: u32, v: Val)
     ensures label { object.new.label ≡ object.old.label }
 {
     match book.field(object.class, name) {
-        Some(field) => set_field(object, field.index, v),
+        Some(field) => set_field(object, field.index as usize, v),
         None => {}
     }
 }
@@ -145,11 +177,12 @@ pub fn write_field(book: &Book, store: &mut [ObjectRow], place: usize, name: u32
     write(book, object, name, v);
 }
 
-/// Writes the field of a number, in the object at a place, where there is one.
-pub fn write_at(store: &mut [ObjectRow], place: usize, index: u32, v: Val)
+/// Writes the field or the element of a number, in the object at a place, where there is one.
+pub fn write_at(store: &mut [ObjectRow], place: usize, index: usize, v: Val)
     requires there { place < length store.old }
     ensures written { (o : Seen) → slice_get (store_of store.old) place ≡ Some o →
         store_of store.new ≡ slice_set (store_of store.old) place (with_value_at index v o) }
+    ensures objects { (t : Tables) → AreOfClasses t store.old → AreOfClasses t store.new }
     ensures labels { (count : ℕ) → LabelsFit count (store_of store.old) →
         LabelsFit count (store_of store.new) }
 {

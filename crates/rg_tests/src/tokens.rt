@@ -5,7 +5,7 @@ use rg_lex::{Tokens, tokens};
 use std::alloc::{AllocError, Global};
 
 // A source; each token's line, place and kind, and the line of the end; or the fault.
-static SOURCES: [(&[u8], &str); 40] = [
+static SOURCES: [(&[u8], &str); 42] = [
     (
         b"class tmp mut",
         "1:0-5 Word(Class); 1:6-9 Word(Tmp); 1:10-13 Word(Mut); end 1",
@@ -87,6 +87,10 @@ static SOURCES: [(&[u8], &str); 40] = [
         "1:0-1 Mark(Plus); 1:2-3 Mark(Minus); 1:4-5 Mark(Star); end 1",
     ),
     (b"/ %", "1:0-1 Mark(Slash); 1:2-3 Mark(Percent); end 1"),
+    (
+        b"[ ]",
+        "1:0-1 Mark(OpenBracket); 1:2-3 Mark(CloseBracket); end 1",
+    ),
     (b"", "end 1"),
     (b"x7 _ If", "1:0-2 Name; 1:3-4 Name; 1:5-7 Name; end 1"),
     (b"classes 007", "1:0-7 Name; 1:8-11 Number(7); end 1"),
@@ -101,6 +105,10 @@ static SOURCES: [(&[u8], &str); 40] = [
     (
         b"a<==!=",
         "1:0-1 Name; 1:1-3 Mark(AtMost); 1:3-4 Mark(Assign); 1:4-6 Mark(NotEqual); end 1",
+    ),
+    (
+        b"a[0]",
+        "1:0-1 Name; 1:1-2 Mark(OpenBracket); 1:2-3 Number(0); 1:3-4 Mark(CloseBracket); end 1",
     ),
     (b"//b\n\r/c// x", "2:5-6 Mark(Slash); 2:6-7 Name; end 2"),
     (b"//\n0// \xc8\0", "2:3-4 Number(0); end 2"),

@@ -40,6 +40,8 @@ fn trap_words(kind: Trap) -> &'static [u8]
         Trap::Input => b"trap input",
         Trap::End => b"trap end",
         Trap::Depth => b"trap depth",
+        Trap::Size => b"trap size",
+        Trap::Index => b"trap index",
     }
 }
 

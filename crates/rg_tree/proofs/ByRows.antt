@@ -18,7 +18,8 @@ use Rattle.rg_tree.specs.Table.{next, row}
 use Rattle.rg_tree.specs.Operators.{cap_of, plain_type_of, manager_of, base_of, input_of, comparison_of, sum_of, product_of, literal_of}
 use Rattle.rg_tree.specs.Forms as form
 use Rattle.rg_tree.specs.Forms.{Form, Given}
-use Rattle.rg_tree.specs.Grammar.{Reads, program_class, program_main, class_row, tmp_class_row, field_row, method_row, no_members, cap_row}
+use Rattle.rg_tree.specs.Grammar.{Reads, program_class, program_main, class_row, tmp_class_row, members_row, element_row, field_row}
+use Rattle.rg_tree.specs.Grammar.{method_row, no_members, cap_row, at_row, no_at, giving_row, no_giving, size_row, element_of}
 use Rattle.rg_tree.specs.Grammar.{plain_type, ref_type, first_param, no_params, next_param, no_more_params, some_result, no_result, manager_row}
 use Rattle.rg_tree.specs.Grammar.{block_row, no_stmts, more_stmts, let_row, assign_row, call_row, swap_row, if_row, while_row, enter_row, print_row}
 use Rattle.rg_tree.specs.Grammar.{collect_row, return_row, else_row, else_none, path_row, next_field, no_fields, new_row, freeze_row, merge_row}
@@ -31,6 +32,7 @@ use Rattle.rg_tree.specs.Grammar.{no_minus, literal, parens, path_value, is_row,
 abbrev pub phrase_of : Form → Phrase
 phrase_of form.Program = p.Program
 phrase_of form.Class = p.Class
+phrase_of form.ClassRest = p.ClassRest
 phrase_of form.Members = p.Members
 phrase_of form.Cap = p.Cap
 phrase_of form.Type' = p.Type'
@@ -41,6 +43,8 @@ phrase_of form.Manager = p.Manager
 phrase_of form.Block = p.Block
 phrase_of form.Stmts = p.Stmts
 phrase_of form.Stmt = p.Stmt
+phrase_of form.At = p.At
+phrase_of form.Giving = p.Giving
 phrase_of form.Else = p.Else
 phrase_of form.Path = p.Path
 phrase_of form.Fields = p.Fields
@@ -123,7 +127,7 @@ manager_of-behind _ m c e = cc
 pub record Begins (x : Kind) : Type 0 where
   pub path : row p.Path (Some x) ≡ Some (base_symbol x ∷ the p.Fields ∷ [])
   pub call_base : row p.CallBase (Some x) ≡ Some (base_symbol x ∷ [])
-  pub stmt : row p.Stmt (Some x) ≡ Some (the p.Path ∷ mark s.Assign ∷ the p.Right ∷ mark s.Semicolon ∷ [])
+  pub stmt : row p.Stmt (Some x) ≡ Some (the p.Path ∷ the p.At ∷ mark s.Assign ∷ the p.Right ∷ mark s.Semicolon ∷ [])
   pub primary : row p.Primary (Some x) ≡ Some (the p.Path ∷ the p.Is ∷ [])
   pub counted : (c : Counts) → counted (base_symbol x) c ≡ Ok c
 
@@ -180,8 +184,8 @@ literal_of-behind _ a c e = cc
 
 class-first : {source : List ℕ} {c d : Counts} {ts us : List Token} {a : Given form.Class} → Reads source form.Class c ts a d us
     → row p.Program (next ts) ≡ Some (the p.Class ∷ the p.Program ∷ [])
-class-first (class_row e f h i j m n) = ap (λ o. row p.Program (Some o)) e
-class-first (tmp_class_row e l f h i j m n) = ap (λ o. row p.Program (Some o)) e
+class-first (class_row e f h x) = ap (λ o. row p.Program (Some o)) e
+class-first (tmp_class_row e l f h x) = ap (λ o. row p.Program (Some o)) e
 
 cap-first : {source : List ℕ} {c d : Counts} {ts us : List Token} {a : Cap} → Reads source form.Cap c ts a d us
     → row p.Type' (next ts) ≡ Some (the p.Cap ∷ name ∷ [])
@@ -207,8 +211,10 @@ call-right (call_start e x f h y) = ap (λ o. row p.Right (Some o)) e
 abbrev pub row_of : {source : List ℕ} {f : Form} {c d : Counts} {ts us : List Token} {a : Given f} → Reads source f c ts a d us → List Symbol
 row_of (program_class x y) = the p.Class ∷ the p.Program ∷ []
 row_of (program_main e x y) = word w.Main ∷ the p.Manager ∷ the p.Block ∷ finish ∷ []
-row_of (class_row e f h i j x l) = word w.Class ∷ class_name ∷ mark s.OpenBrace ∷ the p.Members ∷ mark s.CloseBrace ∷ []
-row_of (tmp_class_row e m f h i j x l) = word w.Tmp ∷ word w.Class ∷ class_name ∷ mark s.OpenBrace ∷ the p.Members ∷ mark s.CloseBrace ∷ []
+row_of (class_row e f h x) = word w.Class ∷ class_name ∷ the p.ClassRest ∷ []
+row_of (tmp_class_row e m f h x) = word w.Tmp ∷ word w.Class ∷ class_name ∷ the p.ClassRest ∷ []
+row_of (members_row e h x f) = mark s.OpenBrace ∷ the p.Members ∷ mark s.CloseBrace ∷ []
+row_of (element_row e h x f i) = mark s.OpenBracket ∷ the p.Type' ∷ mark s.CloseBracket ∷ mark s.Semicolon ∷ []
 row_of (field_row e h i x j y) = field_name ∷ mark s.Colon ∷ the p.Type' ∷ mark s.Semicolon ∷ the p.Members ∷ []
 row_of (method_row e x f h i j y l m n o) = word w.Def ∷ the p.Cap ∷ method_name ∷ mark s.OpenParen ∷ the p.Params ∷ mark s.CloseParen
     ∷ the p.Result ∷ the p.Block ∷ the p.Members ∷ []
@@ -227,15 +233,19 @@ row_of (block_row e h x f) = mark s.OpenBrace ∷ the p.Stmts ∷ mark s.CloseBr
 row_of (no_stmts e) = []
 row_of (more_stmts e x y) = the p.Stmt ∷ the p.Stmts ∷ []
 row_of (let_row e f h i x j y l) = word w.Let ∷ local_name ∷ mark s.Colon ∷ the p.Type' ∷ mark s.Assign ∷ the p.Right ∷ mark s.Semicolon ∷ []
-row_of (assign_row x e y f) = the p.Path ∷ mark s.Assign ∷ the p.Right ∷ mark s.Semicolon ∷ []
+row_of (assign_row x v e y f) = the p.Path ∷ the p.At ∷ mark s.Assign ∷ the p.Right ∷ mark s.Semicolon ∷ []
 row_of (call_row x e) = the p.Call ∷ mark s.Semicolon ∷ []
 row_of (swap_row e f h x i) = word w.Swap ∷ name ∷ mark s.Comma ∷ the p.Path ∷ mark s.Semicolon ∷ []
 row_of (if_row e x y z) = word w.If ∷ the p.Expr ∷ the p.Block ∷ the p.Else ∷ []
 row_of (while_row e x y) = word w.While ∷ the p.Expr ∷ the p.Block ∷ []
-row_of (enter_row e x f h i y) = word w.Enter ∷ the p.Path ∷ word w.As ∷ local_name ∷ the p.Block ∷ []
+row_of (enter_row e x f h i y v) = word w.Enter ∷ the p.Path ∷ word w.As ∷ local_name ∷ the p.Block ∷ the p.Giving ∷ []
 row_of (print_row e x f) = word w.Print ∷ the p.Expr ∷ mark s.Semicolon ∷ []
 row_of (collect_row e f) = word w.Collect ∷ mark s.Semicolon ∷ []
 row_of (return_row e x f) = word w.Return ∷ the p.Expr ∷ mark s.Semicolon ∷ []
+row_of (at_row e h x f) = mark s.OpenBracket ∷ the p.Expr ∷ mark s.CloseBracket ∷ []
+row_of (no_at e) = []
+row_of (giving_row e f h) = word w.Giving ∷ name ∷ mark s.Semicolon ∷ []
+row_of (no_giving e) = []
 row_of (else_row e x) = word w.Else ∷ the p.Block ∷ []
 row_of (else_none e) = []
 row_of (path_row {t = t} e x) = base_symbol t.kind ∷ the p.Fields ∷ []
@@ -247,9 +257,9 @@ row_of (merge_row e f) = word w.Merge ∷ name ∷ []
 row_of (input_row {t = t} e) = that t.kind ∷ []
 row_of (result_row x) = the p.Call ∷ []
 row_of (value_row e x) = the p.Expr ∷ []
-row_of (new_plain e) = name ∷ []
-row_of (new_temporary e f) = word w.Tmp ∷ name ∷ []
-row_of (new_region e f h x) = word w.Iso ∷ name ∷ word w.In ∷ the p.Manager ∷ []
+row_of (new_plain e x) = name ∷ the p.At ∷ []
+row_of (new_temporary e f x) = word w.Tmp ∷ name ∷ the p.At ∷ []
+row_of (new_region e f x h y) = word w.Iso ∷ name ∷ the p.At ∷ word w.In ∷ the p.Manager ∷ []
 row_of (call_start e x f h y) = word w.Call ∷ the p.CallBase ∷ mark s.Dot ∷ name ∷ the p.CallRest ∷ []
 row_of (call_base {t = t} e) = base_symbol t.kind ∷ []
 row_of (call_further e f x) = mark s.Dot ∷ name ∷ the p.CallRest ∷ []
@@ -279,8 +289,10 @@ row_of (minus e x) = mark s.Minus ∷ the p.Primary ∷ []
 row_of (no_minus e x) = the p.Primary ∷ []
 row_of (literal {t = t} e) = that t.kind ∷ []
 row_of (parens e h x f) = mark s.OpenParen ∷ the p.Expr ∷ mark s.CloseParen ∷ []
+row_of (size_row e x) = word w.Size ∷ the p.Path ∷ []
 row_of (path_value x y) = the p.Path ∷ the p.Is ∷ []
 row_of (is_row e f) = word w.Is ∷ word w.Nil ∷ []
+row_of (element_of e h x f) = mark s.OpenBracket ∷ the p.Expr ∷ mark s.CloseBracket ∷ []
 row_of (no_is e) = []
 
 -- the table has that row
@@ -288,8 +300,10 @@ pub row_of-holds : {source : List ℕ} {f : Form} {c d : Counts} {ts us : List T
     → row (phrase_of f) (next ts) ≡ Some (row_of r)
 row_of-holds (program_class x y) = class-first x
 row_of-holds (program_main e x y) = ap (λ o. row p.Program (Some o)) e
-row_of-holds (class_row e f h i j x l) = ap (λ o. row p.Class (Some o)) e
-row_of-holds (tmp_class_row e m f h i j x l) = ap (λ o. row p.Class (Some o)) e
+row_of-holds (class_row e f h x) = ap (λ o. row p.Class (Some o)) e
+row_of-holds (tmp_class_row e m f h x) = ap (λ o. row p.Class (Some o)) e
+row_of-holds (members_row e h x f) = ap (λ o. row p.ClassRest (Some o)) e
+row_of-holds (element_row e h x f i) = ap (λ o. row p.ClassRest (Some o)) e
 row_of-holds (field_row e h i x j y) = ap (λ o. row p.Members (Some o)) e
 row_of-holds (method_row e x f h i j y l m n o) = ap (λ o. row p.Members (Some o)) e
 row_of-holds (no_members e) = ap (row p.Members) e
@@ -307,15 +321,19 @@ row_of-holds (block_row e h x f) = ap (λ o. row p.Block (Some o)) e
 row_of-holds (no_stmts e) = ap (row p.Stmts) e
 row_of-holds (more_stmts e x y) = e
 row_of-holds (let_row e f h i x j y l) = ap (λ o. row p.Stmt (Some o)) e
-row_of-holds (assign_row x e y f) = (path-first x).stmt
+row_of-holds (assign_row x v e y f) = (path-first x).stmt
 row_of-holds (call_row x e) = call-stmt x
 row_of-holds (swap_row e f h x i) = ap (λ o. row p.Stmt (Some o)) e
 row_of-holds (if_row e x y z) = ap (λ o. row p.Stmt (Some o)) e
 row_of-holds (while_row e x y) = ap (λ o. row p.Stmt (Some o)) e
-row_of-holds (enter_row e x f h i y) = ap (λ o. row p.Stmt (Some o)) e
+row_of-holds (enter_row e x f h i y v) = ap (λ o. row p.Stmt (Some o)) e
 row_of-holds (print_row e x f) = ap (λ o. row p.Stmt (Some o)) e
 row_of-holds (collect_row e f) = ap (λ o. row p.Stmt (Some o)) e
 row_of-holds (return_row e x f) = ap (λ o. row p.Stmt (Some o)) e
+row_of-holds (at_row e h x f) = ap (λ o. row p.At (Some o)) e
+row_of-holds (no_at e) = e
+row_of-holds (giving_row e f h) = ap (λ o. row p.Giving (Some o)) e
+row_of-holds (no_giving e) = e
 row_of-holds (else_row e x) = ap (λ o. row p.Else (Some o)) e
 row_of-holds (else_none e) = e
 row_of-holds (path_row e x) = (base_of-begins _ _ _ e).path
@@ -327,9 +345,9 @@ row_of-holds (merge_row e f) = ap (λ o. row p.Right (Some o)) e
 row_of-holds (input_row e) = input_of-row _ _ e
 row_of-holds (result_row x) = call-right x
 row_of-holds (value_row e x) = e
-row_of-holds (new_plain e) = ap (λ o. row p.New (Some o)) e
-row_of-holds (new_temporary e f) = ap (λ o. row p.New (Some o)) e
-row_of-holds (new_region e f h x) = ap (λ o. row p.New (Some o)) e
+row_of-holds (new_plain e x) = ap (λ o. row p.New (Some o)) e
+row_of-holds (new_temporary e f x) = ap (λ o. row p.New (Some o)) e
+row_of-holds (new_region e f x h y) = ap (λ o. row p.New (Some o)) e
 row_of-holds (call_start e x f h y) = ap (λ o. row p.Call (Some o)) e
 row_of-holds (call_base e) = (base_of-begins _ _ _ e).call_base
 row_of-holds (call_further e f x) = ap (λ o. row p.CallRest (Some o)) e
@@ -359,6 +377,8 @@ row_of-holds (minus e x) = ap (λ o. row p.Unary (Some o)) e
 row_of-holds (no_minus e x) = e
 row_of-holds (literal e) = literal_of-row _ _ e
 row_of-holds (parens e h x f) = ap (λ o. row p.Primary (Some o)) e
+row_of-holds (size_row e x) = ap (λ o. row p.Primary (Some o)) e
 row_of-holds (path_value x y) = path-primary x
 row_of-holds (is_row e f) = ap (λ o. row p.Is (Some o)) e
+row_of-holds (element_of e h x f) = ap (λ o. row p.Is (Some o)) e
 row_of-holds (no_is e) = e

@@ -20,13 +20,12 @@ use Rattle.rg_tree.specs.declared.rows.StmtKind.TheVariants as kind_row
 use Rattle.rg_tree.specs.declared.rows.StmtRow.{StmtRow}
 use Rattle.rg_tree.specs.declared.rows.ExprRow.{ExprRow}
 use Rattle.rg_tree.specs.declared.rows.ExprRow.TheVariants as expr_row
-use Rattle.rg_tree.specs.Tree.{Expr, path, is_nil, neg, not, ref, value, new, new_tmp, new_iso, freeze, merge, result_of, Stmt, stmt, call, print}
-use Rattle.rg_tree.specs.Tree.{return, otherwise}
+use Rattle.rg_tree.specs.Tree.{Expr, path, is_nil, neg, not, size, ref, value, freeze, merge, result_of, Stmt, stmt, call, print, return, otherwise}
 use Rattle.rg_tree.specs.Rows.Tables.{Tables, name_at, numbers_in}
 use Rattle.rg_tree.specs.Rows.RowTrees.{path_of, type_of, expr_over, expr_at, call_of, right_of, block_over, else_over, kind_over, stmt_over, stmt_at}
-use Rattle.rg_tree.specs.Rows.RowTrees.{block_of, param_of, param_at, member_of, member_at, class_of}
-use Rattle.rg_tree.specs.Rows.RowsExist.{IsWithin, IsSpanBelow, IsNameIn, IsPathIn, IsTypeIn, IsExprIn, IsCallIn, IsRightIn, IsKindIn, IsStmtIn}
-use Rattle.rg_tree.specs.Rows.RowsExist.{IsBlockIn, IsParamIn, IsMemberIn, IsClassIn}
+use Rattle.rg_tree.specs.Rows.RowTrees.{block_of, param_of, param_at, member_of, member_at, members_under, class_of}
+use Rattle.rg_tree.specs.Rows.RowsExist.{IsWithin, IsSpanBelow, IsNameIn, IsPathIn, IsTypeIn, IsExprIn, IsExprNumber, IsCallIn, IsRightIn}
+use Rattle.rg_tree.specs.Rows.RowsExist.{IsKindIn, IsStmtIn, IsBlockIn, IsParamIn, IsMemberIn, IsClassIn}
 use Rattle.rg_tree.specs.Keeps.{Begins}
 use Rattle.rg_tree.proofs.TreesFrom.{length-Begins, get_or-Begins}
 
@@ -126,6 +125,8 @@ module _ {t u : Tables} (g : IsAbove t u) where
   IsExprIn-grows n (expr_row.Neg a) h = h
   IsExprIn-grows n (expr_row.Not a) h = h
   IsExprIn-grows n (expr_row.Binary op a b) h = h
+  IsExprIn-grows n (expr_row.Size p) h = IsPathIn-grows p h
+  IsExprIn-grows n (expr_row.At p a) h = (IsPathIn-grows p h.0, h.1)
 
   pub IsCallIn-grows : (c : CallRow) → IsCallIn t c → IsCallIn u c
   IsCallIn-grows c h = record {
@@ -134,11 +135,14 @@ module _ {t u : Tables} (g : IsAbove t u) where
     args = IsSpanBelow-grows (length t.exprs) (length u.exprs) g.exprs c.args h.args;
   }
 
+  IsExprNumber-grows : (n : ℕ) → IsExprNumber t n → IsExprNumber u n
+  IsExprNumber-grows n h = omega (arith, g.exprs)
+
   pub IsRightIn-grows : (r : Right) → IsRightIn t r → IsRightIn u r
-  IsRightIn-grows (right_row.Expr e) h = omega (arith, g.exprs)
-  IsRightIn-grows (right_row.New n) h = IsNameIn-grows n h
-  IsRightIn-grows (right_row.NewTmp n) h = IsNameIn-grows n h
-  IsRightIn-grows (right_row.NewIso n m) h = IsNameIn-grows n h
+  IsRightIn-grows (right_row.Expr e) h = IsExprNumber-grows e h
+  IsRightIn-grows (right_row.New n o) h = (IsNameIn-grows n h.0, IfSome_then o h.1 IsExprNumber-grows)
+  IsRightIn-grows (right_row.NewTmp n o) h = (IsNameIn-grows n h.0, IfSome_then o h.1 IsExprNumber-grows)
+  IsRightIn-grows (right_row.NewIso n o m) h = (IsNameIn-grows n h.0, IfSome_then o h.1 IsExprNumber-grows)
   IsRightIn-grows (right_row.Freeze n) h = IsNameIn-grows n h
   IsRightIn-grows (right_row.Merge n) h = IsNameIn-grows n h
   IsRightIn-grows right_row.Read h = tt
@@ -151,14 +155,16 @@ module _ {t u : Tables} (g : IsAbove t u) where
   pub IsKindIn-grows : (n : ℕ) (k : StmtKind) → IsKindIn t n k → IsKindIn u n k
   IsKindIn-grows n (kind_row.Let x y r) h = (IsNameIn-grows x h.0, IsTypeIn-grows y h.1, IsRightIn-grows r h.2)
   IsKindIn-grows n (kind_row.Set p r) h = (IsPathIn-grows p h.0, IsRightIn-grows r h.1)
+  IsKindIn-grows n (kind_row.SetAt p e r) h = (IsPathIn-grows p h.0, IsExprNumber-grows e h.1, IsRightIn-grows r h.2)
   IsKindIn-grows n (kind_row.Call c) h = IsCallIn-grows c h
   IsKindIn-grows n (kind_row.Swap x p) h = (IsNameIn-grows x h.0, IsPathIn-grows p h.1)
-  IsKindIn-grows n (kind_row.If e s o) h = (omega (arith, h.0, g.exprs), same_block n s h.1, IfSome_then o h.2 (same_block n))
-  IsKindIn-grows n (kind_row.While e s) h = (omega (arith, h.0, g.exprs), same_block n s h.1)
-  IsKindIn-grows n (kind_row.Enter p x s) h = (IsPathIn-grows p h.0, IsNameIn-grows x h.1, same_block n s h.2)
-  IsKindIn-grows n (kind_row.Print e) h = omega (arith, g.exprs)
+  IsKindIn-grows n (kind_row.If e s o) h = (IsExprNumber-grows e h.0, same_block n s h.1, IfSome_then o h.2 (same_block n))
+  IsKindIn-grows n (kind_row.While e s) h = (IsExprNumber-grows e h.0, same_block n s h.1)
+  IsKindIn-grows n (kind_row.Enter p x s o) h =
+      (IsPathIn-grows p h.0, IsNameIn-grows x h.1, same_block n s h.2, IfSome_then o h.3 IsNameIn-grows)
+  IsKindIn-grows n (kind_row.Print e) h = IsExprNumber-grows e h
   IsKindIn-grows n kind_row.Collect h = tt
-  IsKindIn-grows n (kind_row.Return e) h = omega (arith, g.exprs)
+  IsKindIn-grows n (kind_row.Return e) h = IsExprNumber-grows e h
 
   pub IsBlockIn-grows : (s : Span) → IsBlockIn t s → IsBlockIn u s
   IsBlockIn-grows s h = IsSpanBelow-grows (length t.stmts) (length u.stmts) g.stmts s h
@@ -178,6 +184,7 @@ module _ {t u : Tables} (g : IsAbove t u) where
   pub IsClassIn-grows : (r : ClassRow) → IsClassIn t r → IsClassIn u r
   IsClassIn-grows r h = record {
     name = IsNameIn-grows r.name h.name;
+    element = IfSome_then r.element h.element IsTypeIn-grows;
     members = IsSpanBelow-grows (length t.members) (length u.members) g.members r.members h.members;
   }
 
@@ -187,17 +194,21 @@ module _ {t u : Tables} (g : IsAbove t u) where
   names-grow s h = ap (map (name_at u)) (numbers_in-grows s h.within)
       ∙ map-agree (name_at u) (name_at t) (length t.names) (numbers_in t s) h.each name_at-grows
 
-  base-grows : (o : Option ℕ) → IfSome o (IsNameIn t) → option_map (name_at u) o ≡ option_map (name_at t) o
-  base-grows None h = refl
-  base-grows (Some n) h = ap Some (name_at-grows n h)
+  some_name-grows : (o : Option ℕ) → IfSome o (IsNameIn t) → option_map (name_at u) o ≡ option_map (name_at t) o
+  some_name-grows None h = refl
+  some_name-grows (Some n) h = ap Some (name_at-grows n h)
 
   pub path_of-grows : (p : row_path.Path) → IsPathIn t p → path_of u p ≡ path_of t p
-  path_of-grows p h = let b = base-grows p.base h.base in let f = names-grow p.fields h.fields in cc
+  path_of-grows p h = let b = some_name-grows p.base h.base in let f = names-grow p.fields h.fields in cc
 
   pub type_of-grows : (y : TypeRow) → IsTypeIn t y → type_of u y ≡ type_of t y
   type_of-grows type_row.Int h = refl
   type_of-grows type_row.Bool h = refl
   type_of-grows (type_row.Ref c n) h = ap (ref c) (name_at-grows n h)
+
+  some_type-grows : (o : Option TypeRow) → IfSome o (IsTypeIn t) → option_map (type_of u) o ≡ option_map (type_of t) o
+  some_type-grows None h = refl
+  some_type-grows (Some y) h = ap Some (type_of-grows y h)
 
   pub expr_over-grows : (n : ℕ) (r : ExprRow) (x y : ℕ → Expr) → IsExprIn t n r → AgreeBelow n x y → expr_over u x r ≡ expr_over t y r
   expr_over-grows n (expr_row.Int z) x y h e = refl
@@ -208,6 +219,8 @@ module _ {t u : Tables} (g : IsAbove t u) where
   expr_over-grows n (expr_row.Neg a) x y h e = ap neg (e a h)
   expr_over-grows n (expr_row.Not a) x y h e = ap not (e a h)
   expr_over-grows n (expr_row.Binary op a b) x y h e = let l = e a h.0 in let r = e b h.1 in cc
+  expr_over-grows n (expr_row.Size p) x y h e = ap size (path_of-grows p h)
+  expr_over-grows n (expr_row.At p a) x y h e = let q = path_of-grows p h.0 in let i = e a h.1 in cc
 
   -- the expressions stay
   module _ (es : AgreeBelow (length t.exprs) (expr_at u) (expr_at t)) where
@@ -220,11 +233,15 @@ module _ {t u : Tables} (g : IsAbove t u) where
         ∙ map-agree (expr_at u) (expr_at t) (length t.exprs) (numbers_in t c.args) h.args.each es in
         cc
 
+    size-grows : (o : Option ℕ) → IfSome o (IsExprNumber t) → option_map (expr_at u) o ≡ option_map (expr_at t) o
+    size-grows None h = refl
+    size-grows (Some e) h = ap Some (es e h)
+
     pub right_of-grows : (r : Right) → IsRightIn t r → right_of u r ≡ right_of t r
     right_of-grows (right_row.Expr e) h = ap value (es e h)
-    right_of-grows (right_row.New n) h = ap new (name_at-grows n h)
-    right_of-grows (right_row.NewTmp n) h = ap new_tmp (name_at-grows n h)
-    right_of-grows (right_row.NewIso n m) h = ap (λ x. new_iso x m) (name_at-grows n h)
+    right_of-grows (right_row.New n o) h = let a = name_at-grows n h.0 in let b = size-grows o h.1 in cc
+    right_of-grows (right_row.NewTmp n o) h = let a = name_at-grows n h.0 in let b = size-grows o h.1 in cc
+    right_of-grows (right_row.NewIso n o m) h = let a = name_at-grows n h.0 in let b = size-grows o h.1 in cc
     right_of-grows (right_row.Freeze n) h = ap freeze (name_at-grows n h)
     right_of-grows (right_row.Merge n) h = ap merge (name_at-grows n h)
     right_of-grows right_row.Read h = refl
@@ -243,11 +260,17 @@ module _ {t u : Tables} (g : IsAbove t u) where
       pub kind_over-grows : (k : StmtKind) → IsKindIn t n k → kind_over u x k ≡ kind_over t y k
       kind_over-grows (kind_row.Let v w r) h = let a = name_at-grows v h.0 in let b = type_of-grows w h.1 in let c = right_of-grows r h.2 in cc
       kind_over-grows (kind_row.Set p r) h = let a = path_of-grows p h.0 in let b = right_of-grows r h.1 in cc
+      kind_over-grows (kind_row.SetAt p e r) h = let a = path_of-grows p h.0 in let b = es e h.1 in let c = right_of-grows r h.2 in cc
       kind_over-grows (kind_row.Call c) h = ap call (call_of-grows c h)
       kind_over-grows (kind_row.Swap v p) h = let a = name_at-grows v h.0 in let b = path_of-grows p h.1 in cc
       kind_over-grows (kind_row.If e s o) h = let a = es e h.0 in let b = block_over-grows s h.1 in let c = else_over-grows o h.2 in cc
       kind_over-grows (kind_row.While e s) h = let a = es e h.0 in let b = block_over-grows s h.1 in cc
-      kind_over-grows (kind_row.Enter p v s) h = let a = path_of-grows p h.0 in let b = name_at-grows v h.1 in let c = block_over-grows s h.2 in cc
+      kind_over-grows (kind_row.Enter p v s o) h =
+          let a = path_of-grows p h.0 in
+          let b = name_at-grows v h.1 in
+          let c = block_over-grows s h.2 in
+          let d = some_name-grows o h.3 in
+          cc
       kind_over-grows (kind_row.Print e) h = ap print (es e h)
       kind_over-grows kind_row.Collect h = refl
       kind_over-grows (kind_row.Return e) h = ap return (es e h)
@@ -257,10 +280,6 @@ module _ {t u : Tables} (g : IsAbove t u) where
 
   pub param_of-grows : (r : ParamRow) → IsParamIn t r → param_of u r ≡ param_of t r
   param_of-grows r h = let a = name_at-grows r.name h.name in let b = type_of-grows r.ty h.ty in cc
-
-  result-grows : (o : Option TypeRow) → IfSome o (IsTypeIn t) → option_map (type_of u) o ≡ option_map (type_of t) o
-  result-grows None h = refl
-  result-grows (Some y) h = ap Some (type_of-grows y h)
 
   pub block_of-grows : AgreeBelow (length t.stmts) (stmt_at u) (stmt_at t) → (s : Span) → IsBlockIn t s → block_of u s ≡ block_of t s
   block_of-grows ss s h = ap (block_over (stmt_at u)) (numbers_in-grows s h.within)
@@ -273,14 +292,19 @@ module _ {t u : Tables} (g : IsAbove t u) where
       let a = name_at-grows n h.0 in
       let q : map (param_at u) (numbers_in u qs) ≡ map (param_at t) (numbers_in t qs) =
       ap (map (param_at u)) (numbers_in-grows qs h.1.within) ∙ map-agree (param_at u) (param_at t) (length t.params) (numbers_in t qs) h.1.each ps in
-      let y = result-grows r h.2 in
+      let y = some_type-grows r h.2 in
       let d = block_of-grows ss b h.3 in
       cc
+
+  members_under-grows : AgreeBelow (length t.members) (member_at u) (member_at t) → (element : Option TypeRow) (s : Span)
+      → IsSpanBelow t (length t.members) s → members_under u element s ≡ members_under t element s
+  members_under-grows ms None s h = ap (map (member_at u)) (numbers_in-grows s h.within)
+      ∙ map-agree (member_at u) (member_at t) (length t.members) (numbers_in t s) h.each ms
+  members_under-grows ms (Some y) s h = refl
 
   pub class_of-grows : AgreeBelow (length t.members) (member_at u) (member_at t) → (r : ClassRow) → IsClassIn t r → class_of u r ≡ class_of t r
   class_of-grows ms r h =
       let a = name_at-grows r.name h.name in
-      let m : map (member_at u) (numbers_in u r.members) ≡ map (member_at t) (numbers_in t r.members) =
-      ap (map (member_at u)) (numbers_in-grows r.members h.members.within)
-      ∙ map-agree (member_at u) (member_at t) (length t.members) (numbers_in t r.members) h.members.each ms in
+      let e = some_type-grows r.element h.element in
+      let m = members_under-grows ms r.element r.members h.members in
       cc

@@ -12,7 +12,8 @@ use Rattle.rg_tree.specs.Counts.{entered, behind}
 use Rattle.rg_tree.specs.Table.{row}
 use Rattle.rg_tree.specs.Operators.{base_of}
 use Rattle.rg_tree.specs.Forms.{Form, Given}
-use Rattle.rg_tree.specs.Grammar.{Reads, program_class, program_main, class_row, tmp_class_row, field_row, method_row, no_members, cap_row}
+use Rattle.rg_tree.specs.Grammar.{Reads, program_class, program_main, class_row, tmp_class_row, members_row, element_row, field_row}
+use Rattle.rg_tree.specs.Grammar.{method_row, no_members, cap_row, at_row, no_at, giving_row, no_giving, size_row, element_of}
 use Rattle.rg_tree.specs.Grammar.{plain_type, ref_type, first_param, no_params, next_param, no_more_params, some_result, no_result, manager_row}
 use Rattle.rg_tree.specs.Grammar.{block_row, no_stmts, more_stmts, let_row, assign_row, call_row, swap_row, if_row, while_row, enter_row, print_row}
 use Rattle.rg_tree.specs.Grammar.{collect_row, return_row, else_row, else_none, path_row, next_field, no_fields, new_row, freeze_row, merge_row}
@@ -54,11 +55,11 @@ pub passes : {source : List ℕ} {f : Form} {c d : Counts} {ts us : List Token} 
     → {ss : List Symbol} {at : List Token} {e : Code} → Stops ss d us e at → Stops (the (phrase_of f) ∷ ss) c ts e at
 passes (program_class x y) within z = absurd within
 passes (program_main e x y) within z = absurd within
-passes (class_row e f h i j x l) within z =
-    turn_back (class_row e f h i j x l) (there e refl (fits {y = class_name} (kind_is f) h (there i j (passes x tt (there l refl z)))))
-passes (tmp_class_row e m f h i j x l) within z =
-    turn_back (tmp_class_row e m f h i j x l)
-    (there e refl (there m refl (fits {y = class_name} (kind_is f) h (there i j (passes x tt (there l refl z))))))
+passes (class_row e f h x) within z = turn_back (class_row e f h x) (there e refl (fits {y = class_name} (kind_is f) h (passes x tt z)))
+passes (tmp_class_row e m f h x) within z =
+    turn_back (tmp_class_row e m f h x) (there e refl (there m refl (fits {y = class_name} (kind_is f) h (passes x tt z))))
+passes (members_row e h x f) within z = turn_back (members_row e h x f) (there e h (passes x tt (there f refl z)))
+passes (element_row e h x f i) within z = turn_back (element_row e h x f i) (there e h (passes x tt (there f refl (there i refl z))))
 passes (field_row e h i x j y) within z =
     turn_back (field_row e h i x j y) (fits {y = field_name} (kind_is e) h (there i refl (passes x tt (there j refl (passes y tt z)))))
 passes (method_row e x f h i j y l m n o) within z =
@@ -84,17 +85,24 @@ passes (more_stmts e x y) within z = turn_back (more_stmts e x y) (passes x tt (
 passes (let_row e f h i x j y l) within z =
     turn_back (let_row e f h i x j y l)
     (there e refl (fits {y = local_name} (kind_is f) h (there i refl (passes x tt (there j refl (passes y tt (there l refl z)))))))
-passes (assign_row x e y f) within z = turn_back (assign_row x e y f) (passes x tt (there e refl (passes y tt (there f refl z))))
+passes (assign_row x v e y f) within z =
+    turn_back (assign_row x v e y f) (passes x tt (passes v tt (there e refl (passes y tt (there f refl z)))))
 passes (call_row x e) within z = turn_back (call_row x e) (passes x tt (there e refl z))
 passes (swap_row e f h x i) within z =
     turn_back (swap_row e f h x i) (there e refl (fits {y = name} (kind_is f) refl (there h refl (passes x tt (there i refl z)))))
 passes (if_row e x y v) within z = turn_back (if_row e x y v) (there e refl (passes x tt (passes y tt (passes v tt z))))
 passes (while_row e x y) within z = turn_back (while_row e x y) (there e refl (passes x tt (passes y tt z)))
-passes (enter_row e x f h i y) within z =
-    turn_back (enter_row e x f h i y) (there e refl (passes x tt (there f refl (fits {y = local_name} (kind_is h) i (passes y tt z)))))
+passes (enter_row e x f h i y v) within z =
+    turn_back (enter_row e x f h i y v)
+    (there e refl (passes x tt (there f refl (fits {y = local_name} (kind_is h) i (passes y tt (passes v tt z))))))
 passes (print_row e x f) within z = turn_back (print_row e x f) (there e refl (passes x tt (there f refl z)))
 passes (collect_row e f) within z = by_row (ap (λ o. row p.Stmt (Some o)) e) (there e refl (there f refl z))
 passes (return_row e x f) within z = turn_back (return_row e x f) (there e refl (passes x tt (there f refl z)))
+passes (at_row e h x f) within z = turn_back (at_row e h x f) (there e h (passes x tt (there f refl z)))
+passes (no_at e) within z = by_row e z
+passes (giving_row e f h) within z =
+    by_row (ap (λ o. row p.Giving (Some o)) e) (there e refl (fits {y = name} (kind_is f) refl (there h refl z)))
+passes (no_giving e) within z = by_row e z
 passes (else_row e x) within z = turn_back (else_row e x) (there e refl (passes x tt z))
 passes (else_none e) within z = by_row e z
 passes (path_row e x) within z = turn_back (path_row e x) (base_there _ _ e (passes x tt z))
@@ -106,9 +114,10 @@ passes (merge_row e f) within z = by_row (ap (λ o. row p.Right (Some o)) e) (th
 passes (input_row e) within z = by_row (input_of-row _ _ e) (there refl (input_of-behind _ _ _ e) z)
 passes (result_row x) within z = turn_back (result_row x) (passes x tt z)
 passes (value_row e x) within z = turn_back (value_row e x) (passes x tt z)
-passes (new_plain e) within z = by_row (ap (λ o. row p.New (Some o)) e) (fits {y = name} (kind_is e) refl z)
-passes (new_temporary e f) within z = by_row (ap (λ o. row p.New (Some o)) e) (there e refl (fits {y = name} (kind_is f) refl z))
-passes (new_region e f h x) within z = turn_back (new_region e f h x) (there e refl (fits {y = name} (kind_is f) refl (there h refl (passes x tt z))))
+passes (new_plain e x) within z = turn_back (new_plain e x) (fits {y = name} (kind_is e) refl (passes x tt z))
+passes (new_temporary e f x) within z = turn_back (new_temporary e f x) (there e refl (fits {y = name} (kind_is f) refl (passes x tt z)))
+passes (new_region e f x h y) within z =
+    turn_back (new_region e f x h y) (there e refl (fits {y = name} (kind_is f) refl (passes x tt (there h refl (passes y tt z)))))
 passes (call_start e x f h y) within z =
     turn_back (call_start e x f h y) (there e refl (passes x tt (there f refl (fits {y = name} (kind_is h) refl (passes y tt z)))))
 passes (call_base e) within z = by_row (base_of-begins _ _ _ e).call_base (base_there _ _ e z)
@@ -139,6 +148,8 @@ passes (minus e x) within z = turn_back (minus e x) (there e refl (passes x tt z
 passes (no_minus e x) within z = turn_back (no_minus e x) (passes x tt z)
 passes (literal e) within z = by_row (literal_of-row _ _ e) (there refl (literal_of-behind _ _ _ e) z)
 passes (parens e h x f) within z = turn_back (parens e h x f) (there e h (passes x tt (there f refl z)))
+passes (size_row e x) within z = turn_back (size_row e x) (there e refl (passes x tt z))
 passes (path_value x y) within z = turn_back (path_value x y) (passes x tt (passes y tt z))
 passes (is_row e f) within z = by_row (ap (λ o. row p.Is (Some o)) e) (there e refl (there f refl z))
+passes (element_of {q = q} e h x f) within z = turn_back (element_of {q = q} e h x f) (there e h (passes x tt (there f refl z)))
 passes (no_is e) within z = by_row e z

@@ -18,7 +18,8 @@ use Rattle.rg_tree.specs.Table.{next, row}
 use Rattle.rg_tree.specs.Operators.{cap_of, plain_type_of, manager_of, base_of, input_of, comparison_of, sum_of, product_of, literal_of}
 use Rattle.rg_tree.specs.Forms as form
 use Rattle.rg_tree.specs.Forms.{Form, Given}
-use Rattle.rg_tree.specs.Grammar.{Reads, Spells, text, longer, program_class, program_main, class_row, tmp_class_row, field_row, method_row}
+use Rattle.rg_tree.specs.Grammar.{Reads, Spells, text, longer, program_class, program_main, class_row, tmp_class_row, members_row, element_row}
+use Rattle.rg_tree.specs.Grammar.{field_row, method_row, at_row, no_at, giving_row, no_giving, size_row, element_of}
 use Rattle.rg_tree.specs.Grammar.{no_members, cap_row, plain_type, ref_type, first_param, no_params, next_param, no_more_params, some_result}
 use Rattle.rg_tree.specs.Grammar.{no_result, manager_row, block_row, no_stmts, more_stmts, let_row, assign_row, call_row, swap_row, if_row, while_row}
 use Rattle.rg_tree.specs.Grammar.{enter_row, print_row, collect_row, return_row, else_row, else_none, path_row, next_field, no_fields, new_row}
@@ -151,16 +152,18 @@ reading source (suc n) form.Program c ts =
     bind (reading source n form.Class c ts) (λ a. bind (reading source n form.Program a.counts a.rest) (λ r. found (program_class a.reads r.reads))))
 reading source (suc n) form.Class c ts =
     or_else (take (Reading source form.Class c) (k.Word w.Class) ts (λ t rs e. take (λ zs.
-    Reading source form.Class c (t ∷ zs)) k.Name rs (λ u us h. allowed (one_class c) (λ d l. take (λ zs.
-    Reading source form.Class c (t ∷ u ∷ zs)) (k.Mark s.OpenBrace) us (λ v vs i. allowed (opened d) (λ b m.
-    bind (reading source n form.Members b vs) (λ r. behind (k.Mark s.CloseBrace) r (λ x xs j q.
-    found (class_row e h l i m q j))))))))) (λ _.
+    Reading source form.Class c (t ∷ zs)) k.Name rs (λ u us h. allowed (one_class c) (λ d l.
+    bind (reading source n form.ClassRest d us) (λ r. found (class_row e h l r.reads)))))) (λ _.
     take (Reading source form.Class c) (k.Word w.Tmp) ts (λ t rs e. take (λ zs.
     Reading source form.Class c (t ∷ zs)) (k.Word w.Class) rs (λ y ys o. take (λ zs.
-    Reading source form.Class c (t ∷ y ∷ zs)) k.Name ys (λ u us h. allowed (one_class c) (λ d l. take (λ zs.
-    Reading source form.Class c (t ∷ y ∷ u ∷ zs)) (k.Mark s.OpenBrace) us (λ v vs i. allowed (opened d) (λ b m.
-    bind (reading source n form.Members b vs) (λ r. behind (k.Mark s.CloseBrace) r (λ x xs j q.
-    found (tmp_class_row e o h l i m q j))))))))))
+    Reading source form.Class c (t ∷ y ∷ zs)) k.Name ys (λ u us h. allowed (one_class c) (λ d l.
+    bind (reading source n form.ClassRest d us) (λ r. found (tmp_class_row e o h l r.reads)))))))
+reading source (suc n) form.ClassRest c ts =
+    or_else (take (Reading source form.ClassRest c) (k.Mark s.OpenBrace) ts (λ t us e. allowed (opened c) (λ d l.
+    bind (reading source n form.Members d us) (λ r. behind (k.Mark s.CloseBrace) r (λ u vs h q. found (members_row e l q h)))))) (λ _.
+    take (Reading source form.ClassRest c) (k.Mark s.OpenBracket) ts (λ t us e. allowed (opened c) (λ d l.
+    bind (reading source n form.Type' d us) (λ y. behind_two (k.Mark s.CloseBracket) (k.Mark s.Semicolon) y (λ u v vs h i q.
+    found (element_row e l q h i))))))
 reading source (suc n) form.Members c ts =
     or_else (take (Reading source form.Members c) k.Name ts (λ t us e. allowed (one_field c) (λ d l. take (λ zs.
     Reading source form.Members c (t ∷ zs)) (k.Mark s.Colon) us (λ u vs h. bind (reading source n form.Type' d vs) (λ y.
@@ -209,8 +212,9 @@ reading source (suc n) form.Stmt c ts =
     behind (k.Mark s.Assign) y (λ x ys j q. bind (reading source n form.Right y.counts ys) (λ r.
     behind (k.Mark s.Semicolon) r (λ z zs m o. found (let_row e h l i q j o m)))))))))) (λ _.
     or_else (any (Reading source form.Stmt c) ts (λ t us. bind (reading source n form.Path c (t ∷ us)) (λ a.
-    behind (k.Mark s.Assign) a (λ u vs e q. bind (reading source n form.Right a.counts vs) (λ r.
-    behind (k.Mark s.Semicolon) r (λ v xs h o. found (assign_row q e o h))))))) (λ _.
+    bind (reading source n form.At a.counts a.rest) (λ o. behind (k.Mark s.Assign) o (λ u vs e q.
+    bind (reading source n form.Right o.counts vs) (λ r.
+    behind (k.Mark s.Semicolon) r (λ v xs h z. found (assign_row a.reads q e z h)))))))) (λ _.
     or_else (any (Reading source form.Stmt c) ts (λ t us. bind (reading source n form.Call c (t ∷ us)) (λ a.
     behind (k.Mark s.Semicolon) a (λ u vs e q. found (call_row q e))))) (λ _.
     or_else (take (Reading source form.Stmt c) (k.Word w.Swap) ts (λ t us e. take (λ zs.
@@ -224,13 +228,23 @@ reading source (suc n) form.Stmt c ts =
     bind (reading source n form.Block a.counts a.rest) (λ b. found (while_row e a.reads b.reads))))) (λ _.
     or_else (take (Reading source form.Stmt c) (k.Word w.Enter) ts (λ t us e. bind (reading source n form.Path c us) (λ a.
     behind_two (k.Word w.As) k.Name a (λ u v vs h i q. allowed (one_local a.counts) (λ d l.
-    bind (reading source n form.Block d vs) (λ b. found (enter_row e q h i l b.reads))))))) (λ _.
+    bind (reading source n form.Block d vs) (λ b. bind (reading source n form.Giving b.counts b.rest) (λ o.
+    found (enter_row e q h i l b.reads o.reads)))))))) (λ _.
     or_else (take (Reading source form.Stmt c) (k.Word w.Print) ts (λ t us e. bind (reading source n form.Expr c us) (λ a.
     behind (k.Mark s.Semicolon) a (λ u vs h q. found (print_row e q h))))) (λ _.
     or_else (take (Reading source form.Stmt c) (k.Word w.Collect) ts (λ t us e. take (λ zs.
     Reading source form.Stmt c (t ∷ zs)) (k.Mark s.Semicolon) us (λ u vs h. found (collect_row e h)))) (λ _.
     take (Reading source form.Stmt c) (k.Word w.Return) ts (λ t us e. bind (reading source n form.Expr c us) (λ a.
     behind (k.Mark s.Semicolon) a (λ u vs h q. found (return_row e q h)))))))))))))
+reading source (suc n) form.At c ts =
+    or_else (take (Reading source form.At c) (k.Mark s.OpenBracket) ts (λ t us e. allowed (opened c) (λ d l.
+    bind (reading source n form.Expr d us) (λ a. behind (k.Mark s.CloseBracket) a (λ u vs h q. found (at_row e l q h)))))) (λ _.
+    nothing (row p.At (next ts)) (λ e. found (no_at e)))
+reading source (suc n) form.Giving c ts =
+    or_else (take (Reading source form.Giving c) (k.Word w.Giving) ts (λ t us e. take (λ zs.
+    Reading source form.Giving c (t ∷ zs)) k.Name us (λ u vs h. take (λ zs.
+    Reading source form.Giving c (t ∷ u ∷ zs)) (k.Mark s.Semicolon) vs (λ v xs i. found (giving_row e h i))))) (λ _.
+    nothing (row p.Giving (next ts)) (λ e. found (no_giving e)))
 reading source (suc n) form.Else c ts =
     or_else (take (Reading source form.Else c) (k.Word w.Else) ts (λ t us e. bind (reading source n form.Block c us) (λ b.
     found (else_row e b.reads)))) (λ _.
@@ -254,12 +268,12 @@ reading source (suc n) form.Right c ts =
     or_else (bind (reading source n form.Call c ts) (λ a. found (result_row a.reads))) (λ _.
     expr_next (row p.Right (next ts)) (λ e. bind (reading source n form.Expr c ts) (λ a. found (value_row e a.reads))))))))
 reading source (suc n) form.New c ts =
-    or_else (take (Reading source form.New c) k.Name ts (λ t us e. found (new_plain e))) (λ _.
+    or_else (take (Reading source form.New c) k.Name ts (λ t us e. bind (reading source n form.At c us) (λ o. found (new_plain e o.reads)))) (λ _.
     or_else (take (Reading source form.New c) (k.Word w.Tmp) ts (λ t us e. take (λ zs.
-    Reading source form.New c (t ∷ zs)) k.Name us (λ u vs h. found (new_temporary e h)))) (λ _.
+    Reading source form.New c (t ∷ zs)) k.Name us (λ u vs h. bind (reading source n form.At c vs) (λ o. found (new_temporary e h o.reads))))) (λ _.
     take (Reading source form.New c) (k.Word w.Iso) ts (λ t us e. take (λ zs. Reading source form.New c (t ∷ zs)) k.Name us (λ u vs h.
-    take (λ zs. Reading source form.New c (t ∷ u ∷ zs)) (k.Word w.In) vs (λ v xs i. bind (reading source n form.Manager c xs) (λ m.
-    found (new_region e h i m.reads)))))))
+    bind (reading source n form.At c vs) (λ o. behind (k.Word w.In) o (λ v xs i q. bind (reading source n form.Manager o.counts xs) (λ m.
+    found (new_region e h q i m.reads))))))))
 reading source (suc n) form.Call c ts =
     take (Reading source form.Call c) (k.Word w.Call) ts (λ t us e. bind (reading source n form.CallBase c us) (λ b.
     behind_two (k.Mark s.Dot) k.Name b (λ u v vs h i q.
@@ -328,11 +342,16 @@ reading source (suc n) form.Primary c ts =
     or_else (any (Reading source form.Primary c) ts (λ t us. known (literal_of t.kind) (λ a e. found (literal e)))) (λ _.
     or_else (take (Reading source form.Primary c) (k.Mark s.OpenParen) ts (λ t us e. allowed (opened c) (λ d l.
     bind (reading source n form.Expr d us) (λ a. behind (k.Mark s.CloseParen) a (λ u vs h q. found (parens e l q h)))))) (λ _.
-    bind (reading source n form.Path c ts) (λ a. bind (reading source n (form.Is a.tree) a.counts a.rest) (λ r. found (path_value a.reads r.reads)))))
+    or_else (take (Reading source form.Primary c) (k.Word w.Size) ts (λ t us e. bind (reading source n form.Path c us) (λ a.
+    found (size_row e a.reads)))) (λ _.
+    bind (reading source n form.Path c ts) (λ a. bind (reading source n (form.Is a.tree) a.counts a.rest) (λ r.
+    found (path_value a.reads r.reads))))))
 reading source (suc n) (form.Is a) c ts =
     or_else (take (Reading source (form.Is a) c) (k.Word w.Is) ts (λ t us e. take (λ zs.
     Reading source (form.Is a) c (t ∷ zs)) (k.Word w.Nil) us (λ u vs h. found (is_row e h)))) (λ _.
-    nothing (row p.Is (next ts)) (λ e. found (no_is e)))
+    or_else (take (Reading source (form.Is a) c) (k.Mark s.OpenBracket) ts (λ t us e. allowed (opened c) (λ d l.
+    bind (reading source n form.Expr d us) (λ b. behind (k.Mark s.CloseBracket) b (λ u vs h q. found (element_of e l q h)))))) (λ _.
+    nothing (row p.Is (next ts)) (λ e. found (no_is e))))
 
 abbrev left_none : {source : List ℕ} {ts : List Token} (r : Reading source form.Program at_start ts) → Option ((a : Tree) × Spells source a ts)
 left_none r = ended r (λ q. Some (r.tree, (r.counts, q)))

@@ -40,10 +40,20 @@ inequality : read_tree 60 (codes "class A{x:int;}main count{if not 1==2{}else{pr
 unfolding front cut_from
 inequality = refl
 
+array_class-formatted : format 60 (codes "class Row[int];main arena{}") ≡ Some (lines (codes "class Row [int];" ∷ codes "main arena {"
+    ∷ codes "}" ∷ []))
+unfolding front cut_from
+array_class-formatted = refl
+
 -- 63 parentheses within the block of main
 parentheses_at_their_limit : is_some (tree_within 1000 [] (tokens (printing (times 63 (k.Mark s.OpenParen ∷ []) ++ k.Number (pos 1)
     ∷ times 63 (k.Mark s.CloseParen ∷ []))))) ≡ true
 parentheses_at_their_limit = refl
+
+-- 63 brackets within the block of main
+brackets_at_their_limit : is_some (tree_within 1000 [] (tokens (printing (times 63 (k.Name ∷ k.Mark s.OpenBracket ∷ []) ++ k.Number (pos 1)
+    ∷ times 63 (k.Mark s.CloseBracket ∷ []))))) ≡ true
+brackets_at_their_limit = refl
 
 -- 512 signs in each of two statements
 abbrev sum_of_513 : List Kind

@@ -75,30 +75,32 @@ word_number-same x y e = sym (pick-word_number x) ∙ ap (pick w.Class words) e 
 
 -- the signs by their numbers
 abbrev signs : List Sign
-signs = s.OpenBrace ∷ s.CloseBrace ∷ s.OpenParen ∷ s.CloseParen ∷ s.Colon ∷ s.Semicolon ∷ s.Comma ∷ s.Dot ∷ s.Assign ∷ s.Equal
-    ∷ s.NotEqual ∷ s.Less ∷ s.AtMost ∷ s.Greater ∷ s.AtLeast ∷ s.Plus ∷ s.Minus ∷ s.Star ∷ s.Slash ∷ s.Percent ∷ []
+signs = s.OpenBrace ∷ s.CloseBrace ∷ s.OpenParen ∷ s.CloseParen ∷ s.OpenBracket ∷ s.CloseBracket ∷ s.Colon ∷ s.Semicolon ∷ s.Comma ∷ s.Dot
+    ∷ s.Assign ∷ s.Equal ∷ s.NotEqual ∷ s.Less ∷ s.AtMost ∷ s.Greater ∷ s.AtLeast ∷ s.Plus ∷ s.Minus ∷ s.Star ∷ s.Slash ∷ s.Percent ∷ []
 
 abbrev pub sign_number : Sign → ℕ
 sign_number s.OpenBrace = 0
 sign_number s.CloseBrace = 1
 sign_number s.OpenParen = 2
 sign_number s.CloseParen = 3
-sign_number s.Colon = 4
-sign_number s.Semicolon = 5
-sign_number s.Comma = 6
-sign_number s.Dot = 7
-sign_number s.Assign = 8
-sign_number s.Equal = 9
-sign_number s.NotEqual = 10
-sign_number s.Less = 11
-sign_number s.AtMost = 12
-sign_number s.Greater = 13
-sign_number s.AtLeast = 14
-sign_number s.Plus = 15
-sign_number s.Minus = 16
-sign_number s.Star = 17
-sign_number s.Slash = 18
-sign_number s.Percent = 19
+sign_number s.OpenBracket = 4
+sign_number s.CloseBracket = 5
+sign_number s.Colon = 6
+sign_number s.Semicolon = 7
+sign_number s.Comma = 8
+sign_number s.Dot = 9
+sign_number s.Assign = 10
+sign_number s.Equal = 11
+sign_number s.NotEqual = 12
+sign_number s.Less = 13
+sign_number s.AtMost = 14
+sign_number s.Greater = 15
+sign_number s.AtLeast = 16
+sign_number s.Plus = 17
+sign_number s.Minus = 18
+sign_number s.Star = 19
+sign_number s.Slash = 20
+sign_number s.Percent = 21
 
 pick-sign_number : (x : Sign) → pick s.OpenBrace signs (sign_number x) ≡ x
 pick-sign_number s.OpenBrace = refl

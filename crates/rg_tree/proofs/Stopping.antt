@@ -13,7 +13,8 @@ use Rattle.rg_tree.specs.Table.{next, row}
 use Rattle.rg_tree.specs.Operators.{base_of}
 use Rattle.rg_tree.specs.Tree.{Tree}
 use Rattle.rg_tree.specs.Forms.{Form, Given}
-use Rattle.rg_tree.specs.Grammar.{Reads, Spells, program_class, program_main, class_row, tmp_class_row, field_row, method_row, no_members, cap_row}
+use Rattle.rg_tree.specs.Grammar.{Reads, Spells, program_class, program_main, class_row, tmp_class_row, members_row, element_row, field_row}
+use Rattle.rg_tree.specs.Grammar.{method_row, no_members, cap_row, at_row, no_at, giving_row, no_giving, size_row, element_of}
 use Rattle.rg_tree.specs.Grammar.{plain_type, ref_type, first_param, no_params, next_param, no_more_params, some_result, no_result, manager_row}
 use Rattle.rg_tree.specs.Grammar.{block_row, no_stmts, more_stmts, let_row, assign_row, call_row, swap_row, if_row, while_row, enter_row, print_row}
 use Rattle.rg_tree.specs.Grammar.{collect_row, return_row, else_row, else_none, path_row, next_field, no_fields, new_row, freeze_row, merge_row}
@@ -121,11 +122,11 @@ pub follows : {source : List ℕ} {f : Form} {c d : Counts} {ts us : List Token}
     → Stops (the (phrase_of f) ∷ ss) c ts e at → Stops ss d us e at
 follows (program_class x y) z = follows y (follows x (turn (program_class x y) z))
 follows (program_main e x y) z = absurd (at_end (follows y (follows x (after e refl (turn (program_main e x y) z)))))
-follows (class_row e f h i j x l) z =
-    after l refl (follows x (after i j (after_token {y = class_name} (kind_is f) h (after e refl (turn (class_row e f h i j x l) z)))))
-follows (tmp_class_row e m f h i j x l) z =
-    after l refl (follows x
-    (after i j (after_token {y = class_name} (kind_is f) h (after m refl (after e refl (turn (tmp_class_row e m f h i j x l) z))))))
+follows (class_row e f h x) z = follows x (after_token {y = class_name} (kind_is f) h (after e refl (turn (class_row e f h x) z)))
+follows (tmp_class_row e m f h x) z =
+    follows x (after_token {y = class_name} (kind_is f) h (after m refl (after e refl (turn (tmp_class_row e m f h x) z))))
+follows (members_row e h x f) z = after f refl (follows x (after e h (turn (members_row e h x f) z)))
+follows (element_row e h x f i) z = after i refl (after f refl (follows x (after e h (turn (element_row e h x f i) z))))
 follows (field_row e h i x j y) z =
     follows y (after j refl (follows x (after i refl (after_token {y = field_name} (kind_is e) h (turn (field_row e h i x j y) z)))))
 follows (method_row e x f h i j y l m n o) z =
@@ -150,17 +151,23 @@ follows (more_stmts e x y) z = follows y (follows x (turn (more_stmts e x y) z))
 follows (let_row e f h i x j y l) z =
     after l refl (follows y (after j refl
     (follows x (after i refl (after_token {y = local_name} (kind_is f) h (after e refl (turn (let_row e f h i x j y l) z)))))))
-follows (assign_row x e y f) z = after f refl (follows y (after e refl (follows x (turn (assign_row x e y f) z))))
+follows (assign_row x v e y f) z = after f refl (follows y (after e refl (follows v (follows x (turn (assign_row x v e y f) z)))))
 follows (call_row x e) z = after e refl (follows x (turn (call_row x e) z))
 follows (swap_row e f h x i) z =
     after i refl (follows x (after h refl (after_token {y = name} (kind_is f) refl (after e refl (turn (swap_row e f h x i) z)))))
 follows (if_row e x y v) z = follows v (follows y (follows x (after e refl (turn (if_row e x y v) z))))
 follows (while_row e x y) z = follows y (follows x (after e refl (turn (while_row e x y) z)))
-follows (enter_row e x f h i y) z =
-    follows y (after_token {y = local_name} (kind_is h) i (after f refl (follows x (after e refl (turn (enter_row e x f h i y) z)))))
+follows (enter_row e x f h i y v) z =
+    follows v (follows y
+    (after_token {y = local_name} (kind_is h) i (after f refl (follows x (after e refl (turn (enter_row e x f h i y v) z))))))
 follows (print_row e x f) z = after f refl (follows x (after e refl (turn (print_row e x f) z)))
 follows (collect_row e f) z = after f refl (after e refl (after_row (ap (λ o. row p.Stmt (Some o)) e) z))
 follows (return_row e x f) z = after f refl (follows x (after e refl (turn (return_row e x f) z)))
+follows (at_row e h x f) z = after f refl (follows x (after e h (turn (at_row e h x f) z)))
+follows (no_at e) z = after_row e z
+follows (giving_row e f h) z =
+    after h refl (after_token {y = name} (kind_is f) refl (after e refl (after_row (ap (λ o. row p.Giving (Some o)) e) z)))
+follows (no_giving e) z = after_row e z
 follows (else_row e x) z = follows x (after e refl (turn (else_row e x) z))
 follows (else_none e) z = after_row e z
 follows (path_row e x) z = follows x (after_base _ _ e (turn (path_row e x) z))
@@ -172,9 +179,10 @@ follows (merge_row e f) z = after_token {y = name} (kind_is f) refl (after e ref
 follows (input_row e) z = after refl (input_of-behind _ _ _ e) (after_row (input_of-row _ _ e) z)
 follows (result_row x) z = follows x (turn (result_row x) z)
 follows (value_row e x) z = follows x (turn (value_row e x) z)
-follows (new_plain e) z = after_token {y = name} (kind_is e) refl (after_row (ap (λ o. row p.New (Some o)) e) z)
-follows (new_temporary e f) z = after_token {y = name} (kind_is f) refl (after e refl (after_row (ap (λ o. row p.New (Some o)) e) z))
-follows (new_region e f h x) z = follows x (after h refl (after_token {y = name} (kind_is f) refl (after e refl (turn (new_region e f h x) z))))
+follows (new_plain e x) z = follows x (after_token {y = name} (kind_is e) refl (turn (new_plain e x) z))
+follows (new_temporary e f x) z = follows x (after_token {y = name} (kind_is f) refl (after e refl (turn (new_temporary e f x) z)))
+follows (new_region e f x h y) z =
+    follows y (after h refl (follows x (after_token {y = name} (kind_is f) refl (after e refl (turn (new_region e f x h y) z)))))
 follows (call_start e x f h y) z =
     follows y (after_token {y = name} (kind_is h) refl (after f refl (follows x (after e refl (turn (call_start e x f h y) z)))))
 follows (call_base e) z = after_base _ _ e (after_row (base_of-begins _ _ _ e).call_base z)
@@ -205,8 +213,10 @@ follows (minus e x) z = follows x (after e refl (turn (minus e x) z))
 follows (no_minus e x) z = follows x (turn (no_minus e x) z)
 follows (literal e) z = after refl (literal_of-behind _ _ _ e) (after_row (literal_of-row _ _ e) z)
 follows (parens e h x f) z = after f refl (follows x (after e h (turn (parens e h x f) z)))
+follows (size_row e x) z = follows x (after e refl (turn (size_row e x) z))
 follows (path_value x y) z = follows y (follows x (turn (path_value x y) z))
 follows (is_row e f) z = after f refl (after e refl (after_row (ap (λ o. row p.Is (Some o)) e) z))
+follows (element_of {q = q} e h x f) z = after f refl (follows x (after e h (turn (element_of {q = q} e h x f) z)))
 follows (no_is e) z = after_row e z
 
 -- nothing stops without anything expected

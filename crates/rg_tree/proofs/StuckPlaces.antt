@@ -55,6 +55,27 @@ parentheses_past_their_limit : stuck_within 1000 (tokens (printing (times 64 (k.
     ∷ k.Mark s.CloseBrace ∷ []))
 parentheses_past_their_limit = refl
 
+-- 64 brackets of two kinds within the block of main: the 64th is past the limit
+brackets_past_their_limit : stuck_within 2000 (tokens (printing (times 32 (k.Mark s.OpenParen ∷ k.Name ∷ k.Mark s.OpenBracket ∷ []))))
+    ≡ halted Nesting (tokens (k.Mark s.OpenBracket ∷ k.Mark s.Semicolon ∷ k.Mark s.CloseBrace ∷ []))
+brackets_past_their_limit = refl
+
+-- a[]: an index is missing
+no_index : stuck_within 100 (tokens (printing (k.Name ∷ k.Mark s.OpenBracket ∷ k.Mark s.CloseBracket ∷ [])))
+    ≡ halted Syntax (tokens (k.Mark s.CloseBracket ∷ k.Mark s.Semicolon ∷ k.Mark s.CloseBrace ∷ []))
+no_index = refl
+
+-- a[1].f: an element has no fields of its own
+field_of_an_element : stuck_within 100 (tokens (printing (k.Name ∷ k.Mark s.OpenBracket ∷ k.Number (pos 1) ∷ k.Mark s.CloseBracket ∷ k.Mark s.Dot
+    ∷ k.Name ∷ [])))
+    ≡ halted Syntax (tokens (k.Mark s.Dot ∷ k.Name ∷ k.Mark s.Semicolon ∷ k.Mark s.CloseBrace ∷ []))
+field_of_an_element = refl
+
+-- size (a): a size is that of a path
+size_of_parentheses : stuck_within 100 (tokens (printing (k.Word w.Size ∷ k.Mark s.OpenParen ∷ k.Name ∷ k.Mark s.CloseParen ∷ [])))
+    ≡ halted Syntax (tokens (k.Mark s.OpenParen ∷ k.Name ∷ k.Mark s.CloseParen ∷ k.Mark s.Semicolon ∷ k.Mark s.CloseBrace ∷ []))
+size_of_parentheses = refl
+
 -- 513 signs in one statement: the 513th is past the limit
 signs_past_their_limit : stuck_within 5000 (tokens (printing (k.Number (pos 1) ∷ times 513 (k.Mark s.Plus ∷ k.Number (pos 1) ∷ []))))
     ≡ halted Limit (tokens (k.Mark s.Plus ∷ k.Number (pos 1) ∷ k.Mark s.Semicolon ∷ k.Mark s.CloseBrace ∷ []))

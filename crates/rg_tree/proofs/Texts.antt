@@ -4,8 +4,8 @@ use Rattle.std.specs.Fmt.{digits}
 use Rattle.rg_tree.specs.declared.rows.BinOp.TheVariants.{Or, And, Eq, Add, Sub, Mul}
 use Rattle.rg_base.specs.declared.words.Cap.TheVariants.{Mut, Imm, Iso}
 use Rattle.rg_base.specs.declared.words.Manager.TheVariants.{Arena, Count, Trace}
-use Rattle.rg_tree.specs.Tree.{Name, Path, int, ref, Expr, number, path, is_nil, neg, not, binary, value, new, new_iso, freeze, stmt, declare, assign}
-use Rattle.rg_tree.specs.Tree.{call, branch, enter, print, collect, otherwise, empty, then, field, method, Tree}
+use Rattle.rg_tree.specs.Tree.{Name, Path, int, ref, Expr, number, path, is_nil, neg, not, binary, size, element, value, new, new_iso, freeze, stmt}
+use Rattle.rg_tree.specs.Tree.{declare, assign, call, branch, enter, print, collect, otherwise, empty, then, field, method, Tree}
 use Rattle.rg_tree.specs.Canonical.{canon, expr_text}
 
 -- lines, each with its end
@@ -40,7 +40,14 @@ difference-text = refl
 -- class A{x:int;}main count{if not 1==2{}else{print - (1);}}
 abbrev pub tests_an_inequality : Tree
 tests_an_inequality = record {
-  classes = record { name = codes "A"; is_tmp = false; members = field (record { name = codes "x"; ty = int; line = 1 }) ∷ []; line = 1 } ∷ [];
+  classes =
+      record {
+        name = codes "A";
+        is_tmp = false;
+        element = None;
+        members = field (record { name = codes "x"; ty = int; line = 1 }) ∷ [];
+        line = 1;
+      } ∷ [];
   manager = Count;
   line = 1;
   body = then (stmt 1 (branch (not (binary Eq (num 1) (num 2))) empty (otherwise (then (stmt 1 (print (neg (num 1)))) empty)))) empty;
@@ -59,6 +66,7 @@ fills_a_list = record {
       record {
         name = codes "Node";
         is_tmp = false;
+        element = None;
         line = 1;
         members =
             field (record { name = codes "value"; ty = int; line = 1 })
@@ -67,6 +75,7 @@ fills_a_list = record {
       ∷ record {
         name = codes "List";
         is_tmp = false;
+        element = None;
         line = 2;
         members =
             field (record { name = codes "head"; ty = ref Mut (codes "Node"); line = 3 })
@@ -77,7 +86,7 @@ fills_a_list = record {
               result = None;
               line = 4;
               body =
-                  then (stmt 5 (declare (codes "n") (ref Mut (codes "Node")) (new (codes "Node"))))
+                  then (stmt 5 (declare (codes "n") (ref Mut (codes "Node")) (new (codes "Node") None)))
                   (then (stmt 6 (assign (from (codes "n") (codes "value" ∷ [])) (value (path (from (codes "v") [])))))
                   (then (stmt 7 (assign (from (codes "n") (codes "next" ∷ [])) (value (path (own (codes "head" ∷ []))))))
                   (then (stmt 8 (assign (own (codes "head" ∷ [])) (value (path (from (codes "n") []))))) empty)));
@@ -87,10 +96,10 @@ fills_a_list = record {
   manager = Arena;
   line = 11;
   body =
-      then (stmt 12 (declare (codes "box") (ref Iso (codes "List")) (new_iso (codes "List") Trace)))
+      then (stmt 12 (declare (codes "box") (ref Iso (codes "List")) (new_iso (codes "List") None Trace)))
       (then (stmt 13 (enter (from (codes "box") []) (codes "l")
       (then (stmt 13 (call (record { target = from (codes "l") []; method = codes "push"; args = num 3 ∷ [] })))
-      (then (stmt 13 collect) empty))))
+      (then (stmt 13 collect) empty)) None))
       (then (stmt 14 (declare (codes "f") (ref Imm (codes "List")) (freeze (codes "box"))))
       (then (stmt 15 (print (path (from (codes "f") (codes "head" ∷ codes "value" ∷ []))))) empty)));
 }
@@ -133,3 +142,10 @@ or_of_ands : expr_text
     (binary And (binary Or (var (codes "a")) (var (codes "b")))
     (binary Or (var (codes "b")) (binary And (var (codes "a")) (var (codes "c"))))) ≡ codes "(a or b) and (b or a and c)"
 or_of_ands = refl
+
+minus_of_size : expr_text (neg (size (own (codes "r" ∷ [])))) ≡ codes "-size self.r"
+minus_of_size = refl
+
+element_at_a_sum : expr_text (binary Mul (element (from (codes "a") (codes "r" ∷ [])) (binary Add (size (from (codes "b") []))
+    (element (from (codes "b") []) (var (codes "i"))))) (var (codes "k"))) ≡ codes "a.r[size b + b[i]] * k"
+element_at_a_sum = refl

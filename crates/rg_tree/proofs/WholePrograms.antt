@@ -34,6 +34,8 @@ classes_and_members = lines (
     codes "  def paused idle() {" ∷
     codes "  }" ∷
     codes "}" ∷
+    codes "class R [mut A];" ∷
+    codes "tmp class S [int];" ∷
     codes "main count {" ∷
     codes "}" ∷ [])
 
@@ -48,12 +50,17 @@ right_sides = lines (
     codes "  let a: mut A = new A;" ∷
     codes "  let t: tmp T = new tmp T;" ∷
     codes "  let y: iso A = new iso A in arena;" ∷
+    codes "  let r: mut R = new R [k];" ∷
+    codes "  let s: tmp S = new tmp S [2];" ∷
+    codes "  let z: iso R = new iso R [size r] in count;" ∷
     codes "  let m: bool = more;" ∷
     codes "  let k: int = read;" ∷
     codes "  let f: imm A = freeze y;" ∷
     codes "  let g: mut A = merge z;" ∷
     codes "  k = call a.go(-k, true);" ∷
     codes "  a.n = k;" ∷
+    codes "  r[k + 1] = new A;" ∷
+    codes "  self.r[k] = r[0];" ∷
     codes "}" ∷ [])
 
 right_sides-formatted : format 100 right_sides ≡ Some right_sides
@@ -69,6 +76,8 @@ statements = lines (
     codes "    call w.idle();" ∷
     codes "    call self.i.i.go(1, m == false);" ∷
     codes "  }" ∷
+    codes "  enter y as w {" ∷
+    codes "  } giving w;" ∷
     codes "  while k {" ∷
     codes "    collect;" ∷
     codes "  }" ∷
@@ -95,6 +104,7 @@ expressions = lines (
     codes "  print (k > 1) == (k >= 2);" ∷
     codes "  print k - (1 + 2) * -(3 - 4);" ∷
     codes "  print -k / 3 % 4 - 1 - (2 - self.f.g);" ∷
+    codes "  print -size a.b < size self and a.b[self.c[k - 1]] * k != 1;" ∷
     codes "}" ∷ [])
 
 expressions-formatted : format 100 expressions ≡ Some expressions

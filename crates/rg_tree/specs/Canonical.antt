@@ -9,10 +9,10 @@ use Rattle.rg_base.specs.declared.words.Cap.{Cap}
 use Rattle.rg_base.specs.declared.words.Cap.TheVariants.{Mut, Tmp, Paused, Imm, Iso}
 use Rattle.rg_base.specs.declared.words.Manager.{Manager}
 use Rattle.rg_base.specs.declared.words.Manager.TheVariants.{Arena, Count, Trace}
-use Rattle.rg_tree.specs.Tree.{Variable, Path, Ty, int, bool, ref, Expr, number, boolean, nil, path, is_nil, neg, not, binary, Call, Right, value}
-use Rattle.rg_tree.specs.Tree.{new, new_tmp, new_iso, freeze, merge, read, more, result_of, Stmt, stmt, StmtKind, declare, assign, call, swap, branch}
-use Rattle.rg_tree.specs.Tree.{while, enter, print, collect, return, Else, no_else, otherwise, Block, empty, then, Param, Method, Member, field}
-use Rattle.rg_tree.specs.Tree.{method, Class, Tree}
+use Rattle.rg_tree.specs.Tree.{Name, Variable, Path, Ty, int, bool, ref, Expr, number, boolean, nil, path, is_nil, neg, not, binary, size, element}
+use Rattle.rg_tree.specs.Tree.{Call, Right, value, new, new_tmp, new_iso, freeze, merge, read, more, result_of, Stmt, stmt, StmtKind, declare, assign}
+use Rattle.rg_tree.specs.Tree.{assign_element, call, swap, branch, while, enter, print, collect, return, Else, no_else, otherwise, Block, empty, then}
+use Rattle.rg_tree.specs.Tree.{Param, Method, Member, field, method, Class, Tree}
 
 -- an operator, with one blank on each side
 abbrev pub op_text : BinOp → List ℕ
@@ -92,6 +92,8 @@ level (is_nil q) = 7
 level (neg a) = 6
 level (not a) = 2
 level (binary op a b) = op_level op
+level (size q) = 7
+level (element q e) = 7
 
 -- what begins a path
 abbrev pub base_text : Variable → List ℕ
@@ -121,6 +123,8 @@ expr_text (is_nil q) = path_text q ++ codes " is nil"
 expr_text (neg a) = codes "-" ++ operand 7 (level a) (expr_text a)
 expr_text (not a) = codes "not " ++ operand 3 (level a) (expr_text a)
 expr_text (binary op a b) = operand (left_level op) (level a) (expr_text a) ++ op_text op ++ operand (right_level op) (level b) (expr_text b)
+expr_text (size q) = codes "size " ++ path_text q
+expr_text (element q e) = path_text q ++ codes "[" ++ expr_text e ++ codes "]"
 
 -- a type
 abbrev pub ty_text : Ty → List ℕ
@@ -143,17 +147,27 @@ arg_texts (e ∷ es) = expr_text e ∷ arg_texts es
 abbrev pub call_text : Call → List ℕ
 call_text c = codes "call " ++ path_text c.target ++ codes "." ++ c.method ++ codes "(" ++ joined (arg_texts c.args) ++ codes ")"
 
+-- a size in brackets, where there is one
+abbrev pub size_text : Option Expr → List ℕ
+size_text None = []
+size_text (Some e) = codes " [" ++ expr_text e ++ codes "]"
+
 -- a right side
 abbrev pub right_text : Right → List ℕ
 right_text (value e) = expr_text e
-right_text (new n) = codes "new " ++ n
-right_text (new_tmp n) = codes "new tmp " ++ n
-right_text (new_iso n m) = codes "new iso " ++ n ++ codes " in " ++ manager_text m
+right_text (new n o) = codes "new " ++ n ++ size_text o
+right_text (new_tmp n o) = codes "new tmp " ++ n ++ size_text o
+right_text (new_iso n o m) = codes "new iso " ++ n ++ size_text o ++ codes " in " ++ manager_text m
 right_text (freeze n) = codes "freeze " ++ n
 right_text (merge n) = codes "merge " ++ n
 right_text read = codes "read"
 right_text more = codes "more"
 right_text (result_of c) = call_text c
+
+-- behind the block of an `enter`: the variable that is given, where there is one
+abbrev pub giving_text : Option Name → List ℕ
+giving_text None = []
+giving_text (Some w) = codes " giving " ++ w ++ codes ";"
 
 -- a line of its own, behind two blanks for each open block
 abbrev pub line_of : ℕ → List ℕ → List ℕ
@@ -168,12 +182,14 @@ abbrev mutual
   pub kind_text : ℕ → StmtKind → List ℕ
   kind_text d (declare n t r) = line_of d (codes "let " ++ n ++ codes ": " ++ ty_text t ++ codes " = " ++ right_text r ++ codes ";")
   kind_text d (assign q r) = line_of d (path_text q ++ codes " = " ++ right_text r ++ codes ";")
+  kind_text d (assign_element q e r) = line_of d (path_text q ++ codes "[" ++ expr_text e ++ codes "] = " ++ right_text r ++ codes ";")
   kind_text d (call c) = line_of d (call_text c ++ codes ";")
   kind_text d (swap n q) = line_of d (codes "swap " ++ n ++ codes ", " ++ path_text q ++ codes ";")
   kind_text d (branch e b o) = line_of d (codes "if " ++ expr_text e ++ codes " {") ++ block_text (suc d) b ++ else_text d o
   kind_text d (while e b) = line_of d (codes "while " ++ expr_text e ++ codes " {") ++ block_text (suc d) b ++ line_of d (codes "}")
-  kind_text d (enter q n b) =
-      line_of d (codes "enter " ++ path_text q ++ codes " as " ++ n ++ codes " {") ++ block_text (suc d) b ++ line_of d (codes "}")
+  kind_text d (enter q n b o) =
+      line_of d (codes "enter " ++ path_text q ++ codes " as " ++ n ++ codes " {") ++ block_text (suc d) b
+      ++ line_of d (codes "}" ++ giving_text o)
   kind_text d (print e) = line_of d (codes "print " ++ expr_text e ++ codes ";")
   kind_text d collect = line_of d (codes "collect;")
   kind_text d (return e) = line_of d (codes "return " ++ expr_text e ++ codes ";")
@@ -212,9 +228,14 @@ abbrev pub class_word : Bool → List ℕ
 class_word false = codes "class "
 class_word true = codes "tmp class "
 
+-- what stands behind a class's name: its members on lines of their own, or the type of its elements
+abbrev pub rest_text : (element : Option Ty) → List Member → List ℕ
+rest_text None ms = codes " {" ++ 10 ∷ [] ++ flat_map member_text ms ++ line_of 0 (codes "}")
+rest_text (Some t) ms = codes " [" ++ ty_text t ++ codes "];" ++ 10 ∷ []
+
 -- the lines of a class
 abbrev pub class_text : Class → List ℕ
-class_text c = line_of 0 (class_word c.is_tmp ++ c.name ++ codes " {") ++ flat_map member_text c.members ++ line_of 0 (codes "}")
+class_text c = class_word c.is_tmp ++ c.name ++ rest_text c.element c.members
 
 -- the canonical text of a program
 abbrev pub canon : Tree → List ℕ

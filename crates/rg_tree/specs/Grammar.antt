@@ -9,9 +9,9 @@ use Rattle.rg_base.specs.declared.words.Keyword.TheVariants as w
 use Rattle.rg_base.specs.declared.words.Sign.TheVariants as s
 use Rattle.rg_base.specs.declared.token.Kind.TheVariants as k
 use Rattle.rg_base.specs.declared.token.Token.{Token}
-use Rattle.rg_tree.specs.Tree.{Name, Variable, Path, Ty, ref, Expr, neg, not, binary, path, is_nil, Call, Right, value, new, new_tmp, new_iso, freeze}
-use Rattle.rg_tree.specs.Tree.{merge, result_of, Stmt, stmt, declare, assign, call, swap, branch, while, enter, print, collect, return, Else, no_else}
-use Rattle.rg_tree.specs.Tree.{otherwise, Block, empty, then, Param, Member, field, method, Class, Tree}
+use Rattle.rg_tree.specs.Tree.{Name, Variable, Path, Ty, ref, Expr, neg, not, binary, path, is_nil, size, element, Call, Right, value, new, new_tmp}
+use Rattle.rg_tree.specs.Tree.{new_iso, freeze, merge, result_of, Stmt, stmt, StmtKind, declare, assign, assign_element, call, swap, branch, while}
+use Rattle.rg_tree.specs.Tree.{enter, print, collect, return, Else, no_else, otherwise, Block, empty, then, Param, Member, field, method, Class, Tree}
 use Rattle.rg_tree.specs.Phrases.{the}
 use Rattle.rg_tree.specs.Phrases as p
 use Rattle.rg_tree.specs.Forms.{Form, Given}
@@ -34,6 +34,11 @@ with_class k r = record r { classes = k ∷ r.classes }
 abbrev pub longer : Path → Name → Path
 longer q f = record q { fields = q.fields ++ f ∷ [] }
 
+-- `q = r`, or `q[e] = r`
+abbrev pub assigned : Path → Option Expr → Right → StmtKind
+assigned q None r = assign q r
+assigned q (Some e) r = assign_element q e r
+
 module _ (source : List ℕ) where
   -- from some counts and tokens a form is read, which leaves counts and tokens
   pub data Reads : (f : Form) → Counts → List Token → Given f → Counts → List Token → Type 0 where
@@ -45,16 +50,24 @@ module _ (source : List ℕ) where
     program_main : {c d e : Counts} {t : Token} {ts us : List Token} {m : Manager} {b : Block}
         → t.kind ≡ k.Word w.Main → Reads form.Manager (main_begins c) ts m d us → Reads form.Block d us b e []
         → Reads form.Program c (t ∷ ts) (record { classes = []; manager = m; body = b; line = t.line }) e []
-    -- Class: class NAME { Members }
-    class_row : {c d e f : Counts} {t u v x : Token} {ts us : List Token} {ms : List Member}
-        → t.kind ≡ k.Word w.Class → u.kind ≡ k.Name → one_class c ≡ Ok d → v.kind ≡ k.Mark s.OpenBrace → opened d ≡ Ok e
-        → Reads form.Members e ts ms f (x ∷ us) → x.kind ≡ k.Mark s.CloseBrace
-        → Reads form.Class c (t ∷ u ∷ v ∷ ts) (record { name = text source u; is_tmp = false; members = ms; line = t.line }) (closed f) us
-    -- Class: tmp class NAME { Members }
-    tmp_class_row : {c d e f : Counts} {t y u v x : Token} {ts us : List Token} {ms : List Member}
-        → t.kind ≡ k.Word w.Tmp → y.kind ≡ k.Word w.Class → u.kind ≡ k.Name → one_class c ≡ Ok d → v.kind ≡ k.Mark s.OpenBrace
-        → opened d ≡ Ok e → Reads form.Members e ts ms f (x ∷ us) → x.kind ≡ k.Mark s.CloseBrace
-        → Reads form.Class c (t ∷ y ∷ u ∷ v ∷ ts) (record { name = text source u; is_tmp = true; members = ms; line = t.line }) (closed f) us
+    -- Class: class NAME ClassRest
+    class_row : {c d e : Counts} {t u : Token} {ts us : List Token} {r : Given form.ClassRest}
+        → t.kind ≡ k.Word w.Class → u.kind ≡ k.Name → one_class c ≡ Ok d → Reads form.ClassRest d ts r e us
+        → Reads form.Class c (t ∷ u ∷ ts) (record { name = text source u; is_tmp = false; element = r.0; members = r.1; line = t.line }) e us
+    -- Class: tmp class NAME ClassRest
+    tmp_class_row : {c d e : Counts} {t y u : Token} {ts us : List Token} {r : Given form.ClassRest}
+        → t.kind ≡ k.Word w.Tmp → y.kind ≡ k.Word w.Class → u.kind ≡ k.Name → one_class c ≡ Ok d
+        → Reads form.ClassRest d ts r e us
+        → Reads form.Class c (t ∷ y ∷ u ∷ ts) (record { name = text source u; is_tmp = true; element = r.0; members = r.1; line = t.line }) e us
+    -- ClassRest: { Members }
+    members_row : {c d e : Counts} {t u : Token} {ts us : List Token} {ms : List Member}
+        → t.kind ≡ k.Mark s.OpenBrace → opened c ≡ Ok d → Reads form.Members d ts ms e (u ∷ us) → u.kind ≡ k.Mark s.CloseBrace
+        → Reads form.ClassRest c (t ∷ ts) (None, ms) (closed e) us
+    -- ClassRest: [ Type ] ;
+    element_row : {c d e : Counts} {t u v : Token} {ts us : List Token} {y : Ty}
+        → t.kind ≡ k.Mark s.OpenBracket → opened c ≡ Ok d → Reads form.Type' d ts y e (u ∷ v ∷ us) → u.kind ≡ k.Mark s.CloseBracket
+        → v.kind ≡ k.Mark s.Semicolon
+        → Reads form.ClassRest c (t ∷ ts) (Some y, []) (closed e) us
     -- Members: NAME : Type ; Members
     field_row : {c d e f : Counts} {t u v : Token} {ts us vs : List Token} {y : Ty} {ms : List Member}
         → t.kind ≡ k.Name → one_field c ≡ Ok d → u.kind ≡ k.Mark s.Colon → Reads form.Type' d ts y e (v ∷ us)
@@ -133,11 +146,11 @@ module _ (source : List ℕ) where
         → Reads form.Type' d ts y e (x ∷ us) → x.kind ≡ k.Mark s.Assign → Reads form.Right e us r f (z ∷ vs)
         → z.kind ≡ k.Mark s.Semicolon
         → Reads form.Stmt c (t ∷ u ∷ v ∷ ts) (stmt t.line (declare (text source u) y r)) f vs
-    -- Stmt, before NAME or self: Path = Right ;
-    assign_row : {c d e : Counts} {t u v : Token} {ts us vs : List Token} {q : Path} {r : Right}
-        → Reads form.Path c (t ∷ ts) q d (u ∷ us) → u.kind ≡ k.Mark s.Assign → Reads form.Right d us r e (v ∷ vs)
-        → v.kind ≡ k.Mark s.Semicolon
-        → Reads form.Stmt c (t ∷ ts) (stmt t.line (assign q r)) e vs
+    -- Stmt, before NAME or self: Path At = Right ;
+    assign_row : {c d e f : Counts} {t u v : Token} {ts us vs ws : List Token} {q : Path} {o : Option Expr} {r : Right}
+        → Reads form.Path c (t ∷ ts) q d us → Reads form.At d us o e (u ∷ vs) → u.kind ≡ k.Mark s.Assign
+        → Reads form.Right e vs r f (v ∷ ws) → v.kind ≡ k.Mark s.Semicolon
+        → Reads form.Stmt c (t ∷ ts) (stmt t.line (assigned q o r)) f ws
     -- Stmt, before call: Call ;
     call_row : {c d : Counts} {t u : Token} {ts us : List Token} {a : Call}
         → Reads form.Call c (t ∷ ts) a d (u ∷ us) → u.kind ≡ k.Mark s.Semicolon
@@ -155,11 +168,11 @@ module _ (source : List ℕ) where
     while_row : {c d e : Counts} {t : Token} {ts us vs : List Token} {a : Expr} {b : Block}
         → t.kind ≡ k.Word w.While → Reads form.Expr c ts a d us → Reads form.Block d us b e vs
         → Reads form.Stmt c (t ∷ ts) (stmt t.line (while a b)) e vs
-    -- Stmt: enter Path as NAME Block
-    enter_row : {c d e f : Counts} {t u v : Token} {ts us vs : List Token} {q : Path} {b : Block}
+    -- Stmt: enter Path as NAME Block Giving
+    enter_row : {c d e f g : Counts} {t u v : Token} {ts us vs ws : List Token} {q : Path} {b : Block} {o : Option Name}
         → t.kind ≡ k.Word w.Enter → Reads form.Path c ts q d (u ∷ v ∷ us) → u.kind ≡ k.Word w.As → v.kind ≡ k.Name
-        → one_local d ≡ Ok e → Reads form.Block e us b f vs
-        → Reads form.Stmt c (t ∷ ts) (stmt t.line (enter q (text source v) b)) f vs
+        → one_local d ≡ Ok e → Reads form.Block e us b f vs → Reads form.Giving f vs o g ws
+        → Reads form.Stmt c (t ∷ ts) (stmt t.line (enter q (text source v) b o)) g ws
     -- Stmt: print Expr ;
     print_row : {c d : Counts} {t u : Token} {ts us : List Token} {a : Expr}
         → t.kind ≡ k.Word w.Print → Reads form.Expr c ts a d (u ∷ us) → u.kind ≡ k.Mark s.Semicolon
@@ -172,6 +185,22 @@ module _ (source : List ℕ) where
     return_row : {c d : Counts} {t u : Token} {ts us : List Token} {a : Expr}
         → t.kind ≡ k.Word w.Return → Reads form.Expr c ts a d (u ∷ us) → u.kind ≡ k.Mark s.Semicolon
         → Reads form.Stmt c (t ∷ ts) (stmt t.line (return a)) d us
+    -- At: [ Expr ]
+    at_row : {c d e : Counts} {t u : Token} {ts us : List Token} {a : Expr}
+        → t.kind ≡ k.Mark s.OpenBracket → opened c ≡ Ok d → Reads form.Expr d ts a e (u ∷ us) → u.kind ≡ k.Mark s.CloseBracket
+        → Reads form.At c (t ∷ ts) (Some a) (closed e) us
+    -- At: nothing
+    no_at : {c : Counts} {ts : List Token}
+        → row p.At (next ts) ≡ Some []
+        → Reads form.At c ts None c ts
+    -- Giving: giving NAME ;
+    giving_row : {c : Counts} {t u v : Token} {ts : List Token}
+        → t.kind ≡ k.Word w.Giving → u.kind ≡ k.Name → v.kind ≡ k.Mark s.Semicolon
+        → Reads form.Giving c (t ∷ u ∷ v ∷ ts) (Some (text source u)) c ts
+    -- Giving: nothing
+    no_giving : {c : Counts} {ts : List Token}
+        → row p.Giving (next ts) ≡ Some []
+        → Reads form.Giving c ts None c ts
     -- Else: else Block
     else_row : {c d : Counts} {t : Token} {ts us : List Token} {b : Block}
         → t.kind ≡ k.Word w.Else → Reads form.Block c ts b d us
@@ -216,18 +245,19 @@ module _ (source : List ℕ) where
     value_row : {c d : Counts} {ts us : List Token} {a : Expr}
         → row p.Right (next ts) ≡ Some (the p.Expr ∷ []) → Reads form.Expr c ts a d us
         → Reads form.Right c ts (value a) d us
-    -- New: NAME
-    new_plain : {c : Counts} {t : Token} {ts : List Token}
-        → t.kind ≡ k.Name
-        → Reads form.New c (t ∷ ts) (new (text source t)) c ts
-    -- New: tmp NAME
-    new_temporary : {c : Counts} {t u : Token} {ts : List Token}
-        → t.kind ≡ k.Word w.Tmp → u.kind ≡ k.Name
-        → Reads form.New c (t ∷ u ∷ ts) (new_tmp (text source u)) c ts
-    -- New: iso NAME in Manager
-    new_region : {c d : Counts} {t u v : Token} {ts us : List Token} {m : Manager}
-        → t.kind ≡ k.Word w.Iso → u.kind ≡ k.Name → v.kind ≡ k.Word w.In → Reads form.Manager c ts m d us
-        → Reads form.New c (t ∷ u ∷ v ∷ ts) (new_iso (text source u) m) d us
+    -- New: NAME At
+    new_plain : {c d : Counts} {t : Token} {ts us : List Token} {o : Option Expr}
+        → t.kind ≡ k.Name → Reads form.At c ts o d us
+        → Reads form.New c (t ∷ ts) (new (text source t) o) d us
+    -- New: tmp NAME At
+    new_temporary : {c d : Counts} {t u : Token} {ts us : List Token} {o : Option Expr}
+        → t.kind ≡ k.Word w.Tmp → u.kind ≡ k.Name → Reads form.At c ts o d us
+        → Reads form.New c (t ∷ u ∷ ts) (new_tmp (text source u) o) d us
+    -- New: iso NAME At in Manager
+    new_region : {c d e : Counts} {t u v : Token} {ts us vs : List Token} {o : Option Expr} {m : Manager}
+        → t.kind ≡ k.Word w.Iso → u.kind ≡ k.Name → Reads form.At c ts o d (v ∷ us) → v.kind ≡ k.Word w.In
+        → Reads form.Manager d us m e vs
+        → Reads form.New c (t ∷ u ∷ ts) (new_iso (text source u) o m) e vs
     -- Call: call CallBase . NAME CallRest
     call_start : {c d e : Counts} {t u v : Token} {ts us vs : List Token} {b : Variable} {a : Call}
         → t.kind ≡ k.Word w.Call → Reads form.CallBase c ts b d (u ∷ v ∷ us) → u.kind ≡ k.Mark s.Dot → v.kind ≡ k.Name
@@ -348,6 +378,10 @@ module _ (source : List ℕ) where
     parens : {c d e : Counts} {t u : Token} {ts us : List Token} {a : Expr}
         → t.kind ≡ k.Mark s.OpenParen → opened c ≡ Ok d → Reads form.Expr d ts a e (u ∷ us) → u.kind ≡ k.Mark s.CloseParen
         → Reads form.Primary c (t ∷ ts) a (closed e) us
+    -- Primary: size Path
+    size_row : {c d : Counts} {t : Token} {ts us : List Token} {q : Path}
+        → t.kind ≡ k.Word w.Size → Reads form.Path c ts q d us
+        → Reads form.Primary c (t ∷ ts) (size q) d us
     -- Primary, before NAME or self: Path Is
     path_value : {c d e : Counts} {ts us vs : List Token} {q : Path} {a : Expr}
         → Reads form.Path c ts q d us → Reads (form.Is q) d us a e vs
@@ -356,6 +390,10 @@ module _ (source : List ℕ) where
     is_row : {c : Counts} {t u : Token} {ts : List Token} {q : Path}
         → t.kind ≡ k.Word w.Is → u.kind ≡ k.Word w.Nil
         → Reads (form.Is q) c (t ∷ u ∷ ts) (is_nil q) c ts
+    -- Is: [ Expr ]
+    element_of : {c d e : Counts} {t u : Token} {ts us : List Token} {q : Path} {a : Expr}
+        → t.kind ≡ k.Mark s.OpenBracket → opened c ≡ Ok d → Reads form.Expr d ts a e (u ∷ us) → u.kind ≡ k.Mark s.CloseBracket
+        → Reads (form.Is q) c (t ∷ ts) (element q a) (closed e) us
     -- Is: nothing
     no_is : {c : Counts} {ts : List Token} {q : Path}
         → row p.Is (next ts) ≡ Some []

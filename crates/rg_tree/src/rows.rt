@@ -10,11 +10,13 @@ pub struct Span {
     pub to: u32,
 }
 
-/// `class C { .. }` or `tmp class C { .. }`
+/// `class C { .. }` or `tmp class C { .. }`; or an array class, `class C [T];` or
+/// `tmp class C [T];`, which has the type of its elements and no members
 #[derive(Clone, Copy)]
 pub struct ClassRow {
     pub name: u32,
     pub is_tmp: bool,
+    pub element: Option<TypeRow>,
     pub members: Span,
     pub line: u64,
 }
@@ -89,6 +91,12 @@ pub enum StmtKind {
         path: Path,
         right: Right,
     },
+    /// `q[e] = r;`
+    SetAt {
+        path: Path,
+        index: u32,
+        right: Right,
+    },
     /// `call q.m(a, b);`
     Call(CallRow),
     /// `swap y, q.f;`
@@ -107,11 +115,12 @@ pub enum StmtKind {
         test: u32,
         body: Span,
     },
-    /// `enter q as z { .. }`
+    /// `enter q as z { .. }` and `enter q as z { .. } giving w;`
     Enter {
         path: Path,
         name: u32,
         body: Span,
+        giving: Option<u32>,
     },
     /// `print e;`
     Print(u32),
@@ -126,12 +135,22 @@ pub enum StmtKind {
 pub enum Right {
     /// `e`
     Expr(u32),
-    /// `new C`
-    New { name: u32 },
-    /// `new tmp C`
-    NewTmp { name: u32 },
-    /// `new iso C in trace`
-    NewIso { name: u32, manager: Manager },
+    /// `new C` and `new C [e]`
+    New {
+        name: u32,
+        size: Option<u32>,
+    },
+    /// `new tmp C` and `new tmp C [e]`
+    NewTmp {
+        name: u32,
+        size: Option<u32>,
+    },
+    /// `new iso C in trace` and `new iso C [e] in trace`
+    NewIso {
+        name: u32,
+        size: Option<u32>,
+        manager: Manager,
+    },
     /// `freeze y`
     Freeze(u32),
     /// `merge y`
@@ -178,6 +197,10 @@ pub enum ExprRow {
     Not(u32),
     /// `a + b`
     Binary { op: BinOp, left: u32, right: u32 },
+    /// `size q`
+    Size(Path),
+    /// `q[e]`
+    At { path: Path, index: u32 },
 }
 
 /// The operators of two operands.

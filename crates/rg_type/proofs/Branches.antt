@@ -10,11 +10,11 @@ use Rattle.rg_tree.specs.Tree.{Name, Variable, Path, Class, Expr, branch, while,
 use Rattle.rg_rules.specs.Answers.{at_line}
 use Rattle.rg_rules.specs.Names.{block_names, else_names}
 use Rattle.rg_rules.specs.Environment.{gone, Entry, Env, closed, joined, covers}
-use Rattle.rg_rules.specs.Statements.{judge_test, judge_enter, left, judge_kind, judge_block, judge_else}
+use Rattle.rg_rules.specs.Statements.{judge_test, judge_enter, judge_giving, left, judge_kind, judge_block, judge_else}
 use Rattle.rg_rules.proofs.Answers.{at_line-ok}
 use Rattle.rg_flow.specs.Flows.{state_of}
 use Rattle.rg_names.specs.Judged.{FailsAs}
-use Rattle.rg_names.proofs.Fails.{FailsAs-bind}
+use Rattle.rg_names.proofs.Fails.{FailsAs-first, FailsAs-bind}
 use Rattle.rg_flow.specs.Scope.{Slot, Scope, closed_at, env_of}
 use Rattle.rg_flow.specs.States.{state_at, IsSaved, restated, joined_with, CoversStates}
 use Rattle.rg_flow.specs.declared.env.saved.Saved.{Saved}
@@ -196,17 +196,24 @@ repeat-covered t saved head out here s e h =
     covers-true t saved.flow saved.depth saved.len head out s.len s.states (rw e at h)
 
 -- the rule of `enter` over what its parts gave
-pub enter-judged : (classes : List Class) (line : ℕ) (env x y n : Env) (p : Path) (z : Name) (b : Block) →
+pub enter-judged : (classes : List Class) (line : ℕ) (env x y n : Env) (p : Path) (z : Name) (b : Block) (giving : Option Name) →
     at_line line (judge_enter classes env p.base p.fields z) ≡ Ok x → judge_block classes None x b ≡ Ok y →
-    n ≡ left p.base p.fields (closed env y) → judge_kind classes None line env (enter p z b) ≡ Ok n
-enter-judged classes line env x y n p z b h k i = rw (h, k, i) refl
+    at_line line (judge_giving y z giving) ≡ Ok tt → n ≡ left p.base p.fields (closed env y) →
+    judge_kind classes None line env (enter p z b giving) ≡ Ok n
+enter-judged classes line env x y n p z b giving h k g i = rw (h, k, g, i) refl
 
--- what stands in front of its body or the body has a fault
-pub enter-fails : (classes : List Class) (line : ℕ) (env : Env) (p : Path) (z : Name) (b : Block) (s : Stop) →
-    FailsAs (at_line line (judge_enter classes env p.base p.fields z)) s → FailsAs (judge_kind classes None line env (enter p z b)) s
-enter-fails classes line env p z b s h = FailsAs-bind (at_line line (judge_enter classes env p.base p.fields z)) _ s h
+-- what stands in front of its body, the body or what `giving` asks has a fault
+pub enter-fails : (classes : List Class) (line : ℕ) (env : Env) (p : Path) (z : Name) (b : Block) (giving : Option Name) (s : Stop) →
+    FailsAs (at_line line (judge_enter classes env p.base p.fields z)) s → FailsAs (judge_kind classes None line env (enter p z b giving)) s
+enter-fails classes line env p z b giving s h = FailsAs-bind (at_line line (judge_enter classes env p.base p.fields z)) _ s h
 
-pub enter-fails-body : (classes : List Class) (line : ℕ) (env x : Env) (p : Path) (z : Name) (b : Block) (s : Stop) →
+pub enter-fails-body : (classes : List Class) (line : ℕ) (env x : Env) (p : Path) (z : Name) (b : Block) (giving : Option Name) (s : Stop) →
     at_line line (judge_enter classes env p.base p.fields z) ≡ Ok x → FailsAs (judge_block classes None x b) s →
-    FailsAs (judge_kind classes None line env (enter p z b)) s
-enter-fails-body classes line env x p z b s h k = rw h (FailsAs-bind (judge_block classes None x b) _ s k)
+    FailsAs (judge_kind classes None line env (enter p z b giving)) s
+enter-fails-body classes line env x p z b giving s h k = rw h (FailsAs-bind (judge_block classes None x b) _ s k)
+
+pub enter-fails-giving : (classes : List Class) (line : ℕ) (env x y : Env) (p : Path) (z : Name) (b : Block) (giving : Option Name) (s : Stop) →
+    at_line line (judge_enter classes env p.base p.fields z) ≡ Ok x → judge_block classes None x b ≡ Ok y →
+    FailsAs (at_line line (judge_giving y z giving)) s → FailsAs (judge_kind classes None line env (enter p z b giving)) s
+enter-fails-giving classes line env x y p z b giving s h k g =
+    rw (h, k) (FailsAs-first (at_line line (judge_giving y z giving)) (Ok (left p.base p.fields (closed env y))) s g)

@@ -1,19 +1,19 @@
 -- Behind an expression, a right side or a call there are the variables that were in front of it.
-use Rattle.std.proofs.Common.{◌≡◌, ◌==◌, Bool as Truth, true, false, not as negated, if◌then◌else◌, List, [], ◌∷◌, length, Option, Some, ok_or, Ok}
-use Rattle.std.proofs.Common.{arith}
+use Rattle.std.proofs.Common.{◌≡◌, ◌==◌, Bool as Truth, true, false, not as negated, if◌then◌else◌, List, [], ◌∷◌, length, Option, None, Some, ok_or}
+use Rattle.std.proofs.Common.{Ok, arith}
 use Rattle.rg_base.specs.declared.words.Cap.{Cap}
 use Rattle.rg_base.specs.declared.words.Cap.TheVariants.{Mut, Tmp, Imm, Iso}
 use Rattle.rg_base.specs.declared.ty.Ty.{Ty}
 use Rattle.rg_base.specs.declared.ty.Ty.TheVariants.{Int, Bool, Ref}
 use Rattle.rg_base.specs.declared.fault.Code.TheVariants.{Unknown, Mismatch}
-use Rattle.rg_tree.specs.Tree.{Name, Variable, ref, Expr, number, boolean, nil, path, is_nil, neg, not, binary, Call, Right, value, new, new_tmp}
-use Rattle.rg_tree.specs.Tree.{new_iso, freeze, merge, read, more, result_of, Class}
+use Rattle.rg_tree.specs.Tree.{Name, Variable, ref, Expr, number, boolean, nil, path, is_nil, neg, not, binary, size, element, Call, Right, value}
+use Rattle.rg_tree.specs.Tree.{new, new_tmp, new_iso, freeze, merge, read, more, result_of, Class}
 use Rattle.rg_rules.specs.Capabilities.{below, is_iso, iso_class}
-use Rattle.rg_rules.specs.Types.{good_type, method_named, param_types}
+use Rattle.rg_rules.specs.Types.{good_type, names_array, method_named, param_types}
 use Rattle.rg_rules.specs.Environment.{Entry, Env, entry_of, seen_type, available, is_ready, marked, used, gone}
-use Rattle.rg_rules.specs.Paths.{walk, follow}
+use Rattle.rg_rules.specs.Paths.{read_through, walk, walk_array, follow}
 use Rattle.rg_rules.specs.Expressions.{Judged, against, nil_type, judge_path, judge_is_nil, among, operand_type, result_type, judge_expr}
-use Rattle.rg_rules.specs.Rights.{Called, judge_args, judge_call, judge_new, judge_consumed, judge_right}
+use Rattle.rg_rules.specs.Rights.{Called, judge_args, judge_call, judge_size, judge_new, judge_consumed, judge_right}
 use Rattle.rg_rules.proofs.Answers.{bind-ok, then-ok, test-then}
 use Rattle.rg_rules.proofs.Expression.{against-ok, binary-ok}
 use Rattle.rg_type.proofs.Alike.{Grows, Grows-same, Grows-trans, Grows-marked}
@@ -61,6 +61,13 @@ judge_expr-grows classes env w (binary op a b) j h =
     let g = judge_expr-grows classes env (operand_type (among op)) a p.l p.operands.left in
     let k = judge_expr-grows classes p.l.env (operand_type (among op)) b p.r p.operands.right in
     against-grows w (result_type (among op)) env p.r.env j (Grows-trans 0 0 env p.l.env p.r.env g k) p.last
+judge_expr-grows classes env w (size q) j h =
+    let p = then-ok (walk_array classes env q.base q.fields) _ j h in against-grows w Int env env j (Grows-same env) p.2
+judge_expr-grows classes env w (element q e) j h =
+    let a = bind-ok (walk_array classes env q.base q.fields) _ j h in
+    let t = bind-ok (read_through a.0.receiver a.0.ty) _ j a.2 in
+    let i = bind-ok (judge_expr classes env (Some Int) e) _ j t.2 in
+    against-grows w t.0 env i.0.env j (judge_expr-grows classes env (Some Int) e i.0 i.1) i.2
 
 judge_args-grows : (classes : List Class) (env out : Env) (ts : List Ty) (args : List Expr) → judge_args classes env ts args ≡ Ok out →
     Grows 0 env out
@@ -80,10 +87,21 @@ judge_call-grows classes env c j h =
     let a = bind-ok (judge_args classes env (param_types classes m.0) c.args) _ j n.1 in
     let e : a.0 ≡ j.env = grind arith in rw (← e) (judge_args-grows classes env a.0 _ c.args a.1)
 
-judge_new-grows : (classes : List Class) (env : Env) (w : Ty) (cap : Cap) (x : Name) (j : Judged) → judge_new classes env w cap x ≡ Ok j →
-    Grows 0 env j.env
-judge_new-grows classes env w cap x j h =
-    let p = bind-ok (good_type classes (ref cap x)) _ j h in against-grows (Some w) p.0 env env j (Grows-same env) p.2
+judge_size-grows : (classes : List Class) (env out : Env) (x : Name) (o : Option Expr) → judge_size classes env x o ≡ Ok out → Grows 0 env out
+judge_size-grows classes env out x None h =
+    let t = test-then (negated (names_array classes x)) _ _ out h in
+    let e : env ≡ out = grind arith in rw (← e) (Grows-same env)
+judge_size-grows classes env out x (Some e) h =
+    let t = test-then (names_array classes x) _ _ out h in
+    let j = bind-ok (judge_expr classes env (Some Int) e) _ out t.1 in
+    let o : j.0.env ≡ out = grind arith in rw (← o) (judge_expr-grows classes env (Some Int) e j.0 j.1)
+
+judge_new-grows : (classes : List Class) (env : Env) (w : Ty) (cap : Cap) (x : Name) (o : Option Expr) (j : Judged) →
+    judge_new classes env w cap x o ≡ Ok j → Grows 0 env j.env
+judge_new-grows classes env w cap x o j h =
+    let p = bind-ok (good_type classes (ref cap x)) _ j h in
+    let s = bind-ok (judge_size classes env x o) _ j p.2 in
+    against-grows (Some w) p.0 env s.0 j (judge_size-grows classes env s.0 x o s.1) s.2
 
 judge_consumed-grows : (env : Env) (w : Ty) (cap : Cap) (y : Name) (j : Judged) → judge_consumed env w cap y ≡ Ok j → Grows 0 env j.env
 judge_consumed-grows env w cap y j h =
@@ -94,9 +112,9 @@ judge_consumed-grows env w cap y j h =
 
 pub judge_right-grows : (classes : List Class) (env : Env) (w : Ty) (r : Right) (j : Judged) → judge_right classes env w r ≡ Ok j → Grows 0 env j.env
 judge_right-grows classes env w (value e) j h = judge_expr-grows classes env (Some w) e j h
-judge_right-grows classes env w (new x) j h = judge_new-grows classes env w Mut x j h
-judge_right-grows classes env w (new_tmp x) j h = judge_new-grows classes env w Tmp x j h
-judge_right-grows classes env w (new_iso x m) j h = judge_new-grows classes env w Iso x j h
+judge_right-grows classes env w (new x o) j h = judge_new-grows classes env w Mut x o j h
+judge_right-grows classes env w (new_tmp x o) j h = judge_new-grows classes env w Tmp x o j h
+judge_right-grows classes env w (new_iso x o m) j h = judge_new-grows classes env w Iso x o j h
 judge_right-grows classes env w (freeze y) j h = judge_consumed-grows env w Imm y j h
 judge_right-grows classes env w (merge y) j h = judge_consumed-grows env w Mut y j h
 judge_right-grows classes env w read j h = against-grows (Some w) Int env env j (Grows-same env) h

@@ -5,8 +5,6 @@ mod StatementEnvs
 mod ScopeSteps
 mod BlockSteps
 mod AddSteps
-mod PathSteps
-mod ExpressionSteps
 mod Branches
 mod RowRules
 mod RightSteps

@@ -1,7 +1,7 @@
 -- Right sides and calls, step by step.
 use Rattle.std.proofs.Common.{◌≡◌, refl, sym, ap, ap₂, subst, ◌∙◌, ℕ, suc, ◌+◌, ◌<◌, ◌≤◌, ◌==◌, Bool as Truth, true, false, List, map, length, drop}
 use Rattle.std.proofs.Common.{drop-cons, get_or, Option}
-use Rattle.std.proofs.Common.{Some, ok_or, Result, Ok, Err, add-one, arith}
+use Rattle.std.proofs.Common.{Some, ok_or, Result, Ok, Err, OnOk, add-one, arith}
 use Rattle.std.proofs.lemmas.Bool.{eq-eqb}
 use Rattle.std.proofs.lemmas.List.{drop_all, length-map}
 use Rattle.rg_base.specs.declared.words.Cap.{Cap}
@@ -10,7 +10,7 @@ use Rattle.rg_base.specs.declared.ty.Ty.{Ty}
 use Rattle.rg_base.specs.declared.ty.Ty.TheVariants.{Int, Bool, Ref}
 use Rattle.rg_base.specs.declared.fault.Code.{Code}
 use Rattle.rg_base.specs.declared.fault.Code.TheVariants.{Unknown, Mismatch, Capability, Arity}
-use Rattle.rg_tree.specs.Tree.{Name, ref, Call, Method, Class}
+use Rattle.rg_tree.specs.Tree.{Name, ref, Expr, Call, Method, Class}
 use Rattle.rg_tree.specs.Rows.Tables.{Tables, name_at, numbers_in}
 use Rattle.rg_tree.specs.Rows.RowTrees.{call_of, classes_of, param_at, expr_at}
 use Rattle.rg_tree.specs.declared.rows.CallRow.{CallRow}
@@ -20,19 +20,26 @@ use Rattle.rg_rules.specs.Types.{type_of, good_type, method_named, method_result
 use Rattle.rg_rules.specs.Environment.{Entry, Env, entry_of, is_ready, marked, gone}
 use Rattle.rg_rules.specs.Paths.{Followed, follow, walk}
 use Rattle.rg_rules.specs.Expressions.{Judged, against, judge_expr}
-use Rattle.rg_rules.specs.Rights.{Called, judge_args, judge_call, judge_new, judge_consumed}
+use Rattle.rg_rules.specs.Rights.{Called, judge_args, judge_call, judge_size, judge_new, judge_consumed}
 use Rattle.rg_names.specs.declared.entry.Sig.{Sig}
 use Rattle.rg_names.specs.TreeAnswers.{IsKnown, MethodIs, HasGoodParams}
 use Rattle.rg_flow.specs.Scope.{Scope, env_of}
 use Rattle.rg_flow.specs.States.{IsReadable}
-use Rattle.rg_type.specs.Inner.Changing.{TypedAs}
+use Rattle.rg_expressions.specs.Judging.{TypedAs}
 use Rattle.rg_type.specs.Inner.Calls.{LeadsAs, method_behind, param_type, SigAs}
 
--- `new C` and the like: the class is good
-pub TypedAs-new : (classes : List Class) (wanted ty : Ty) (cap : Cap) (x : Name) (r : Result Ty Code) → Ok ty ≡ good_type classes (ref cap x) →
-    ((env : Env) → TypedAs (against (Some wanted) ty env) env r) → (env : Env) → TypedAs (judge_new classes env wanted cap x) env r
-TypedAs-new classes wanted ty cap x r e h env =
-    subst (λ (g : Answer Ty). TypedAs (◌>>=◌ g (λ t. against (Some wanted) t env)) env r) e (h env)
+-- `new C` and the like: the class is good, and its size is
+pub TypedAs-new : (classes : List Class) (env new : Env) (wanted ty : Ty) (cap : Cap) (x : Name) (size : Option Expr) (r : Result Ty Code) →
+    Ok ty ≡ good_type classes (ref cap x) → judge_size classes env x size ≡ Ok new → TypedAs (against (Some wanted) ty new) new r →
+    TypedAs (judge_new classes env wanted cap x size) new r
+TypedAs-new classes env new wanted ty cap x size r e s h =
+    subst (λ (g : Answer Ty). TypedAs (◌>>=◌ g (λ t. ◌>>=◌ (judge_size classes env x size) (λ out. against (Some wanted) t out))) new r) e
+    (subst (λ (o : Answer Env). TypedAs (◌>>=◌ o (λ out. against (Some wanted) ty out)) new r) (sym s) h)
+
+-- what holds behind a right side holds where its type was the wanted one
+pub OnOk-where : {A : Type 0} (P : Type 0) (r : Result A Code) → P → OnOk r P
+OnOk-where P (Ok a) h = h
+OnOk-where P (Err code) h = tt
 
 -- `freeze y`, `merge y`: the variable is there, `iso` and ready
 pub TypedAs-consumed : (env new : Env) (wanted : Ty) (cap : Cap) (y : Name) (e : Entry) (c : ℕ) (r : Result Ty Code) →

@@ -1,25 +1,25 @@
 -- The rules of `if`, `while` and `enter` over rows, from what each call in turn leaves of the variables that are kept in place.
-use Rattle.std.proofs.Common.{◌≡◌, sym, ap, ◌∙◌, ℕ, ◌+◌, ◌≤◌, Bool, false, length, Option, None, Ok, IsTrue, arith}
+use Rattle.std.proofs.Common.{◌≡◌, sym, ap, ◌∙◌, ℕ, ◌+◌, ◌≤◌, Bool, false, length, Option, None, option_map, Ok, IsTrue, arith}
 use Rattle.rg_base.specs.declared.fault.Code.TheVariants.{Loop}
 use Rattle.rg_base.specs.declared.fault.Stop.{Stop}
 use Rattle.rg_base.specs.declared.fault.Stop.TheVariants as stop
 use Rattle.rg_tree.specs.declared.rows.Span.{Span}
-use Rattle.rg_tree.specs.declared.rows.Path.{Path}
 use Rattle.rg_tree.specs.Rows.Tables.{Tables, name_at}
 use Rattle.rg_tree.specs.Tree.{Else, StmtKind, branch, while, enter}
 use Rattle.rg_tree.specs.Rows.RowTrees.{path_of, expr_at, stmt_at, else_over, block_of, program_of}
-use Rattle.rg_rules.specs.Answers.{at_line}
+use Rattle.rg_rules.specs.Answers.{Answer, Passed as Checked, at_line}
 use Rattle.rg_rules.specs.Names.{block_names, else_names}
 use Rattle.rg_rules.specs.Environment.{Env}
-use Rattle.rg_rules.specs.Statements.{judge_test, judge_enter, left, judge_kind, judge_block, judge_else}
+use Rattle.rg_rules.specs.Statements.{judge_test, judge_enter, judge_giving, left, judge_kind, judge_block, judge_else}
 use Rattle.rg_names.specs.Judged.{FailsAs}
 use Rattle.rg_flow.specs.Scope.{Scope, closed_at, env_of}
 use Rattle.rg_flow.specs.States.{IsSaved, restated, joined_with, CoversStates}
 use Rattle.rg_flow.specs.declared.env.saved.Saved.{Saved}
+use Rattle.rg_type.specs.declared.statements.enter.Entrance.{Entrance}
 use Rattle.rg_type.proofs.Branches.{behind-test, behind-block, behind-else, behind-enter, behind-both, Closed, close-block, Restored, restore-front}
 use Rattle.rg_type.proofs.Branches.{choice-env, branch-judged, branch-fails-test, branch-fails-first, branch-fails-other, repeat-uncovered}
 use Rattle.rg_type.proofs.Branches.{repeat-covered, while-judged, while-fails-test, while-fails-body, while-fails, enter-judged, enter-fails}
-use Rattle.rg_type.proofs.Branches.{enter-fails-body}
+use Rattle.rg_type.proofs.Branches.{enter-fails-body, enter-fails-giving}
 
 -- what each call gives: the test, a block, what stands behind the first block of an `if`, and the head of an `enter`
 abbrev pub Tested : Tables → (line e : ℕ) → (front out : Scope) → Type 0
@@ -34,10 +34,14 @@ else_of p other_span = else_over p (stmt_at p) other_span
 abbrev pub PassedElse : Tables → Option Span → (front out : Scope) → Type 0
 PassedElse p other_span front out = judge_else (program_of p).classes (env_of p front) (else_of p other_span) ≡ Ok (env_of p out)
 
-abbrev pub Entered : Tables → (line : ℕ) → Path → (name : ℕ) → (front out : Scope) → Type 0
-Entered p line path name front out =
-    at_line line (judge_enter (program_of p).classes (env_of p front) (path_of p path).base (path_of p path).fields (name_at p name))
+abbrev pub Entered : Tables → (line : ℕ) → Entrance → (front out : Scope) → Type 0
+Entered p line e front out =
+    at_line line (judge_enter (program_of p).classes (env_of p front) (path_of p e.path).base (path_of p e.path).fields (name_at p e.name))
     ≡ Ok (env_of p out)
+
+-- what `giving` asks of the variables at the end of a block
+abbrev pub giving_of : Tables → Entrance → Scope → Answer Checked
+giving_of p e out = judge_giving (env_of p out) (name_at p e.name) (option_map (name_at p) e.giving)
 
 -- a statement with blocks has a fault
 abbrev pub Fails : Tables → (line : ℕ) → Scope → StmtKind → Stop → Type 0
@@ -54,8 +58,8 @@ if_of p e first_span other_span = branch (expr_at p e) (block_of p first_span) (
 abbrev pub while_of : Tables → (e : ℕ) → Span → StmtKind
 while_of p e body = while (expr_at p e) (block_of p body)
 
-abbrev pub enter_of : Tables → Path → (name : ℕ) → Span → StmtKind
-enter_of p path name body = enter (path_of p path) (name_at p name) (block_of p body)
+abbrev pub enter_of : Tables → Entrance → Span → StmtKind
+enter_of p e body = enter (path_of p e.path) (name_at p e.name) (block_of p body) (option_map (name_at p) e.giving)
 
 module _ (p : Tables) where
   -- how many variables there are
@@ -63,10 +67,9 @@ module _ (p : Tables) where
   tested-room line e front out h =
       let b = behind-test p (program_of p).classes line front out (expr_at p e) h in omega (arith, b.most)
 
-  pub entered-room : (line : ℕ) (path : Path) (name : ℕ) (front out : Scope) → Entered p line path name front out →
-      length out.slots ≤ length front.slots + 1
-  entered-room line path name front out h =
-      (behind-enter p (program_of p).classes line front out (path_of p path).base (path_of p path).fields (name_at p name) h).most
+  pub entered-room : (line : ℕ) (e : Entrance) (front out : Scope) → Entered p line e front out → length out.slots ≤ length front.slots + 1
+  entered-room line e front out h =
+      (behind-enter p (program_of p).classes line front out (path_of p e.path).base (path_of p e.path).fields (name_at p e.name) h).most
 
   pub block-within : (span : Span) (front out : Scope) → Passed p span front out → length front.slots ≤ length out.slots
   block-within span front out h = (behind-block p (program_of p).classes None front out (block_of p span) h).within
@@ -186,30 +189,38 @@ module _ (p : Tables) where
       d.front_is d.out_is (repeat-covered p saved head out here d.saved_is d.here_is c) k.env_is
 
   -- `enter`
-  pub enter-fails-at-head : (line : ℕ) (path : Path) (name : ℕ) (body : Span) (env : Scope) (s : Stop) →
-      FailsAs (at_line line (judge_enter (program_of p).classes (env_of p env) (path_of p path).base (path_of p path).fields (name_at p name))) s →
-      Fails p line env (enter_of p path name body) s
-  enter-fails-at-head line path name body env s h =
-      enter-fails (program_of p).classes line (env_of p env) (path_of p path) (name_at p name) (block_of p body) s h
+  pub enter-fails-at-head : (line : ℕ) (e : Entrance) (body : Span) (env : Scope) (s : Stop) →
+      FailsAs (at_line line (judge_enter (program_of p).classes (env_of p env) (path_of p e.path).base (path_of p e.path).fields (name_at p e.name)))
+      s → Fails p line env (enter_of p e body) s
+  enter-fails-at-head line e body env s h =
+      enter-fails (program_of p).classes line (env_of p env) (path_of p e.path) (name_at p e.name) (block_of p body) (option_map (name_at p) e.giving)
+      s h
 
-  pub enter-fails-within : (line : ℕ) (path : Path) (name : ℕ) (body : Span) (env front : Scope) (s : Stop) → Entered p line path name env front →
-      FailsAs (judge_block (program_of p).classes None (env_of p front) (block_of p body)) s → Fails p line env (enter_of p path name body) s
-  enter-fails-within line path name body env front s t h =
-      enter-fails-body (program_of p).classes line (env_of p env) (env_of p front) (path_of p path) (name_at p name) (block_of p body) s t h
+  pub enter-fails-within : (line : ℕ) (e : Entrance) (body : Span) (env front : Scope) (s : Stop) → Entered p line e env front →
+      FailsAs (judge_block (program_of p).classes None (env_of p front) (block_of p body)) s → Fails p line env (enter_of p e body) s
+  enter-fails-within line e body env front s t h =
+      enter-fails-body (program_of p).classes line (env_of p env) (env_of p front) (path_of p e.path) (name_at p e.name) (block_of p body)
+      (option_map (name_at p) e.giving) s t h
 
-  pub window-within : (line : ℕ) (path : Path) (name : ℕ) (body : Span) (env front out : Scope) → Entered p line path name env front →
+  pub enter-fails-at-end : (line : ℕ) (e : Entrance) (body : Span) (env front out : Scope) (s : Stop) → Entered p line e env front →
+      Passed p body front out → FailsAs (at_line line (giving_of p e out)) s → Fails p line env (enter_of p e body) s
+  enter-fails-at-end line e body env front out s t h g =
+      enter-fails-giving (program_of p).classes line (env_of p env) (env_of p front) (env_of p out) (path_of p e.path) (name_at p e.name)
+      (block_of p body) (option_map (name_at p) e.giving) s t h g
+
+  pub window-within : (line : ℕ) (e : Entrance) (body : Span) (env front out : Scope) → Entered p line e env front →
       Passed p body front out → length env.slots ≤ length out.slots
-  window-within line path name body env front out t h =
-      let g = behind-enter p (program_of p).classes line env front (path_of p path).base (path_of p path).fields (name_at p name) t in
+  window-within line e body env front out t h =
+      let g = behind-enter p (program_of p).classes line env front (path_of p e.path).base (path_of p e.path).fields (name_at p e.name) t in
       omega (arith, g.within, block-within body front out h)
 
-  pub enter-leaves : (line : ℕ) (path : Path) (name : ℕ) (body : Span) (env front out here new : Scope) (saved : Saved) → IsSaved saved env →
-      Entered p line path name env front → Passed p body front out → here ≡ closed_at saved.depth saved.len out →
-      env_of p new ≡ left (path_of p path).base (path_of p path).fields (env_of p here) → Leaves p line env (enter_of p path name body) new
-  enter-leaves line path name body env front out here new saved s t h e l =
-      let g = behind-enter p (program_of p).classes line env front (path_of p path).base (path_of p path).fields (name_at p name) t in
+  pub enter-leaves : (line : ℕ) (e : Entrance) (body : Span) (env front out here new : Scope) (saved : Saved) → IsSaved saved env →
+      Entered p line e env front → Passed p body front out → at_line line (giving_of p e out) ≡ Ok tt → here ≡ closed_at saved.depth saved.len out →
+      env_of p new ≡ left (path_of p e.path).base (path_of p e.path).fields (env_of p here) → Leaves p line env (enter_of p e body) new
+  enter-leaves line e body env front out here new saved s t h v i l =
+      let g = behind-enter p (program_of p).classes line env front (path_of p e.path).base (path_of p e.path).fields (name_at p e.name) t in
       let b = behind-block p (program_of p).classes None front out (block_of p body) h in
       let k = close-block p saved.depth saved.len (1 + block_names (block_of p body)) env out here s.depth s.len
-      (behind-both p 1 (block_names (block_of p body)) env front out g b) e in
-      enter-judged (program_of p).classes line (env_of p env) (env_of p front) (env_of p out) (env_of p new) (path_of p path) (name_at p name)
-      (block_of p body) t h (l ∙ ap (left (path_of p path).base (path_of p path).fields) k.env_is)
+      (behind-both p 1 (block_names (block_of p body)) env front out g b) i in
+      enter-judged (program_of p).classes line (env_of p env) (env_of p front) (env_of p out) (env_of p new) (path_of p e.path) (name_at p e.name)
+      (block_of p body) (option_map (name_at p) e.giving) t h v (l ∙ ap (left (path_of p e.path).base (path_of p e.path).fields) k.env_is)

@@ -2,20 +2,22 @@
 use Rattle.std.proofs.Common.{◌≡◌, ℕ, suc, ◌+◌, ◌≤◌, true, ◌||◌, not as negated, List, [], ◌∷◌, length, Option, Some, None, ok_or, Ok, arith}
 use Rattle.rg_base.specs.declared.ty.Ty.{Ty}
 use Rattle.rg_base.specs.declared.words.Cap.TheVariants.{Mut}
-use Rattle.rg_base.specs.declared.ty.Ty.TheVariants.{Bool, Ref}
+use Rattle.rg_base.specs.declared.ty.Ty.TheVariants.{Int, Bool, Ref}
 use Rattle.rg_base.specs.declared.fault.Code.TheVariants.{Unknown, Mismatch, Loop, Return}
-use Rattle.rg_tree.specs.Tree.{Name, Variable, Ty as Written, Path, Expr, Call, Right, Stmt, stmt, StmtKind, declare, assign, call, swap, branch}
-use Rattle.rg_tree.specs.Tree.{while, enter, print, collect, return, Else, no_else, otherwise, Block, empty as none, then as next, Class}
+use Rattle.rg_tree.specs.Tree.{Name, Variable, Ty as Written, Path, Expr, Call, Right, Stmt, stmt, StmtKind, declare, assign, assign_element, call}
+use Rattle.rg_tree.specs.Tree.{swap, branch, while, enter, print, collect, return, Else, no_else, otherwise, Block, empty as none, then as next}
+use Rattle.rg_tree.specs.Tree.{Class}
 use Rattle.rg_rules.specs.Answers.{test, at_line}
-use Rattle.rg_rules.specs.Capabilities.{is_iso, iso_class, same_type, stays_at_depth, printable}
+use Rattle.rg_rules.specs.Capabilities.{is_iso, iso_class, same_type, stays_at_depth, may_write, printable}
 use Rattle.rg_rules.specs.Types.{good_type}
 use Rattle.rg_rules.specs.Environment.{Env, entry_of, visible, at_depth, with_variable, marked, is_ready, is_lent, ready, lent, deeper, closed}
 use Rattle.rg_rules.specs.Environment.{joined, covers}
-use Rattle.rg_rules.specs.Paths.{writable_field}
+use Rattle.rg_rules.specs.Paths.{walk_array, writable_field}
 use Rattle.rg_rules.specs.Expressions.{judge_expr}
 use Rattle.rg_rules.specs.Rights.{judge_call, judge_right}
-use Rattle.rg_rules.specs.Statements.{judge_declare, is_call, judge_assign, judge_call_alone, swapped_field, judge_swap, judge_test, judge_enter}
-use Rattle.rg_rules.specs.Statements.{left, judge_print, judge_return, last_of, judge_stmt, judge_kind, judge_else, judge_block}
+use Rattle.rg_rules.specs.Statements.{judge_declare, is_call, judge_assign, judge_assign_element, judge_call_alone, swapped_field, judge_swap}
+use Rattle.rg_rules.specs.Statements.{judge_test, judge_enter, judge_giving, left, judge_print, judge_return, last_of, judge_stmt, judge_kind}
+use Rattle.rg_rules.specs.Statements.{judge_else, judge_block}
 use Rattle.rg_rules.specs.Names.{stmt_names, kind_names, else_names, block_names}
 use Rattle.rg_rules.proofs.Answers.{bind-ok, then-ok, test-then, at_line-ok}
 use Rattle.rg_type.proofs.Alike.{Begin, Begin-same, Begin-trans, Grows, Grows-same, Grows-more, Grows-trans, Grows-marked, Grows-with_variable}
@@ -47,6 +49,17 @@ judge_assign-grows classes env out x (f ∷ fs) r h =
     let c = test-then (negated (is_call r)) _ _ out i.1 in
     let j = bind-ok (judge_right classes env t.0 r) _ out c.1 in
     let e : j.0.env ≡ out = grind arith in rw (← e) (judge_right-grows classes env t.0 r j.0 j.1)
+
+judge_assign_element-grows : (classes : List Class) (env out : Env) (x : Variable) (fs : List Name) (e : Expr) (r : Right) →
+    judge_assign_element classes env x fs e r ≡ Ok out → Grows 0 env out
+judge_assign_element-grows classes env out x fs e r h =
+    let a = bind-ok (walk_array classes env x fs) _ out h in
+    let w = test-then (may_write a.0.receiver) _ _ out a.2 in
+    let c = test-then (negated (is_call r)) _ _ out w.1 in
+    let i = bind-ok (judge_expr classes env (Some Int) e) _ out c.1 in
+    let j = bind-ok (judge_right classes i.0.env a.0.ty r) _ out i.2 in
+    let o : j.0.env ≡ out = grind arith in
+    rw (← o) (Grows-trans 0 0 env i.0.env _ (judge_expr-grows classes env (Some Int) e i.0 i.1) (judge_right-grows classes i.0.env a.0.ty r j.0 j.1))
 
 judge_call_alone-grows : (classes : List Class) (env out : Env) (c : Call) → judge_call_alone classes env c ≡ Ok out → Grows 0 env out
 judge_call_alone-grows classes env out c h =
@@ -120,6 +133,8 @@ mutual
       judge_kind classes last line env k ≡ Ok out → Grows (kind_names k) env out
   judge_kind-grows classes last line env out (declare x t r) h = judge_declare-grows classes env out x t r (at_line-ok line _ out h)
   judge_kind-grows classes last line env out (assign p r) h = judge_assign-grows classes env out p.base p.fields r (at_line-ok line _ out h)
+  judge_kind-grows classes last line env out (assign_element p e r) h =
+      judge_assign_element-grows classes env out p.base p.fields e r (at_line-ok line _ out h)
   judge_kind-grows classes last line env out (call c) h = judge_call_alone-grows classes env out c (at_line-ok line _ out h)
   judge_kind-grows classes last line env out (swap y p) h = judge_swap-grows classes env out y p (at_line-ok line _ out h)
   judge_kind-grows classes last line env out (branch e first other) h =
@@ -139,9 +154,10 @@ mutual
       let a = bind-ok (judge_block classes None f.0 body) _ out f.2 in
       let c = then-ok (at_line line (test (covers env a.0) Loop)) _ out a.2 in
       let o : env ≡ out = grind arith in rw (← o) (Grows-more 0 (block_names body) env env (omega arith) (Grows-same env))
-  judge_kind-grows classes last line env out (enter p z body) h =
+  judge_kind-grows classes last line env out (enter p z body giving) h =
       let f = bind-ok (at_line line (judge_enter classes env p.base p.fields z)) _ out h in
       let a = bind-ok (judge_block classes None f.0 body) _ out f.2 in
+      let k = then-ok (at_line line (judge_giving a.0 z giving)) _ out a.2 in
       let o : left p.base p.fields (closed env a.0) ≡ out = grind arith in
       let n = judge_enter-grows classes env f.0 p.base p.fields z (at_line-ok line _ f.0 f.1) in
       let g = judge_block-grows classes None f.0 a.0 body a.1 in

@@ -1,5 +1,3 @@
 -- What joins the private layers of this crate; no clause of a public call cites it.
 pub mod Calls
 pub mod Changing
-pub mod Operations
-pub mod Walks

@@ -5,14 +5,8 @@ ghost use Rattle.rg_rules.specs.Answers as rules;
 ghost use Rattle.rg_rules.specs.Environment.{Env};
 ghost use Rattle.rg_type.specs.Inner.Changing.{DoneAs, LeavesAs};
 
-use rg_base::{Code, Fault, Stop};
-
-/// A fault at a line.
-pub fn fault(code: Code, line: u64) -> Stop
-    ensures { result ≡ Stop.Fault (record { code = code; line = line }) }
-{
-    Stop::Fault(Fault { code, line })
-}
+use rg_base::{Code, Stop};
+use rg_expressions::fault;
 
 /// The same answer, with the line.
 pub fn at_line(line: u64, done: Result<(), Code>) -> Result<(), Stop>

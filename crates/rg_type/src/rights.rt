@@ -1,22 +1,20 @@
 //! Right sides and calls (docs/language.md, "Judgements").
 
-ghost use Rattle.std.specs.Prelude.{◌≡◌, All, map, IfOk, IfSome, OnOk, Some, length};
+ghost use Rattle.std.specs.Prelude.{◌≡◌, All, map, option_map, IfOk, IfSome, OnOk, Some, length};
 ghost use Rattle.rg_tree.specs.Rows.Tables.{name_at};
 ghost use Rattle.rg_tree.specs.Rows.RowTrees.{call_of, expr_at, param_at, program_of, right_of};
 ghost use Rattle.rg_tree.specs.Rows.RowsExist.{IsCallIn, IsExprNumber, IsNameIn, IsRightIn};
 ghost use Rattle.rg_rules.specs.Types.{type_of};
-ghost use Rattle.rg_rules.specs.Environment.{Env as Variables};
 ghost use Rattle.rg_rules.specs.Rights as rules;
 ghost use Rattle.rg_names.specs.TreeAnswers.{IsGoodParam, IsKnown};
 ghost use Rattle.rg_flow.specs.Scope.{env_of};
 ghost use Rattle.rg_flow.specs.States.{IsReadable};
-ghost use Rattle.rg_type.specs.Inner.Changing.{CalledAs, DoneAs, TypedAs};
+ghost use Rattle.rg_expressions.specs.Judging.{TypedAs};
+ghost use Rattle.rg_type.specs.Inner.Changing.{CalledAs, DoneAs};
 ghost use Rattle.rg_type.specs.Inner.Calls.{method_behind, param_type, SigAs};
 
-use crate::expressions::{against, expression};
-use crate::paths::{follow, walk};
-use crate::types::iso_class;
 use rg_base::{Cap, Code, Ty};
+use rg_expressions::{against, expression, follow, iso_class, walk};
 use rg_flow::{Env, State};
 use rg_names::{Book, Sig};
 use rg_rules::below;
@@ -35,9 +33,9 @@ pub fn right_side(env: &mut Env, book: &Book, right: Right, wanted: Ty) -> Resul
 {
     match right {
         Right::Expr(e) => expression(env, book, e, Some(wanted)),
-        Right::New { name } => new(book, Cap::Mut, name, wanted),
-        Right::NewTmp { name } => new(book, Cap::Tmp, name, wanted),
-        Right::NewIso { name, .. } => new(book, Cap::Iso, name, wanted),
+        Right::New { name, size } => new(env, book, Cap::Mut, name, size, wanted),
+        Right::NewTmp { name, size } => new(env, book, Cap::Tmp, name, size, wanted),
+        Right::NewIso { name, size, .. } => new(env, book, Cap::Iso, name, size, wanted),
         Right::Freeze(name) => consumed(env, book, Cap::Imm, name, wanted),
         Right::Merge(name) => consumed(env, book, Cap::Mut, name, wanted),
         Right::Read => against(Some(wanted), Ty::Int),
@@ -46,16 +44,54 @@ pub fn right_side(env: &mut Env, book: &Book, right: Right, wanted: Ty) -> Resul
     }
 }
 
-// `new C`, `new tmp C` and `new iso C in M`.
-fn new(book: &Book, cap: Cap, name: u32, wanted: Ty) -> Result<Ty, Code>
+// `new C`, `new tmp C` and `new iso C in M`, and each with a size behind C.
+fn new(
+    env: &mut Env,
+    book: &Book,
+    cap: Cap,
+    name: u32,
+    size: Option<u32>,
+    wanted: Ty,
+) -> Result<Ty, Code>
     requires name { IsNameIn book.now.program name }
-    ensures judged { (env : Variables) → let t = book.now.program in
-        TypedAs (rules.judge_new (program_of t).classes env wanted cap (name_at t name))
-        env result }
+    requires size { IfSome size (IsExprNumber book.now.program) }
+    requires scope { IsReadable book.now.program env.old }
+    ensures judged { let t = book.now.program in
+        TypedAs (rules.judge_new (program_of t).classes (env_of t env.old) wanted cap
+        (name_at t name) (option_map (expr_at t) size)) (env_of t env.new) result }
+    ensures scope { OnOk result (IsReadable book.now.program env.new) }
     ensures known { IfOk result (IsKnown (program_of book.now.program).classes) }
 {
     let ty = book.ty(TypeRow::Ref { cap, name })?;
+    sized(env, book, name, size)?;
     against(Some(wanted), ty)
+}
+
+// The number of elements, which an array class has and no other class.
+fn sized(env: &mut Env, book: &Book, name: u32, size: Option<u32>) -> Result<(), Code>
+    requires name { IsNameIn book.now.program name }
+    requires size { IfSome size (IsExprNumber book.now.program) }
+    requires scope { IsReadable book.now.program env.old }
+    ensures judged { let t = book.now.program in
+        DoneAs (rules.judge_size (program_of t).classes (env_of t env.old) (name_at t name)
+        (option_map (expr_at t) size)) (env_of t env.new) result }
+    ensures scope { OnOk result (IsReadable book.now.program env.new) }
+{
+    match size {
+        None => {
+            if book.is_array(name) {
+                return Err(Code::BadType);
+            }
+            Ok(())
+        },
+        Some(e) => {
+            if !book.is_array(name) {
+                return Err(Code::BadType);
+            }
+            expression(env, book, e, Some(Ty::Int))?;
+            Ok(())
+        },
+    }
 }
 
 // `freeze y` and `merge y`.

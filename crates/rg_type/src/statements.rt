@@ -6,7 +6,8 @@ mod enter;
 mod simple;
 mod swap;
 
-ghost use Rattle.std.specs.Prelude.{◌≡◌, ◌+◌, ◌<◌, ◌≤◌, suc, length, IfOk, IfSome, None, OnOk};
+ghost use Rattle.std.specs.Prelude.{◌≡◌, ◌+◌, ◌<◌, ◌≤◌, suc, length, option_map, IfOk, IfSome};
+ghost use Rattle.std.specs.Prelude.{None, OnOk};
 ghost use Rattle.rg_base.specs.declared.limits.TheConstants.{BODY_NAMES};
 ghost use Rattle.rg_tree.specs.Tree as forms;
 ghost use Rattle.rg_tree.specs.Rows.Tables.{name_at};
@@ -22,14 +23,15 @@ ghost use Rattle.rg_flow.specs.States.{IsReadable};
 ghost use Rattle.rg_type.specs.Judging.{StmtJudgedAs};
 ghost use Rattle.rg_type.specs.Inner.Changing.{LeavesAs};
 
-use crate::faults::{at_line, fault};
-use assign::assign;
+use crate::faults::at_line;
+use assign::{assign, assign_element};
 use declare::declare;
-use enter::{enter, leave};
+use enter::{Entrance, enter, given, leave};
 use rg_base::{Code, Stop, Ty};
+use rg_expressions::fault;
 use rg_flow::Env;
 use rg_names::{Book, Classes};
-use rg_tree::{Path, Program, Span, StmtKind};
+use rg_tree::{Program, Span, StmtKind};
 use simple::{call_alone, print, return_, tested};
 use swap::swap;
 
@@ -77,11 +79,22 @@ fn statement(env: &mut Env, book: &Book, s: u32, last: Option<Ty>) -> Result<(),
     match row.kind {
         StmtKind::Let { name, ty, right } => declare(env, book, name, ty, right, line),
         StmtKind::Set { path, right } => at_line(line, assign(env, book, path, right)),
+        StmtKind::SetAt { path, index, right } => {
+            at_line(line, assign_element(env, book, path, index, right))
+        },
         StmtKind::Call(call) => at_line(line, call_alone(env, book, call)),
         StmtKind::Swap { name, path } => at_line(line, swap(env, book, name, path)),
         StmtKind::If { test, yes, no } => branch(env, book, test, yes, no, line),
         StmtKind::While { test, body } => while_(env, book, test, body, line),
-        StmtKind::Enter { path, name, body } => window(env, book, path, name, body, line),
+        StmtKind::Enter {
+            path,
+            name,
+            body,
+            giving,
+        } => {
+            let entrance = Entrance { path, name, giving };
+            window(env, book, entrance, body, line)
+        },
         StmtKind::Print(e) => at_line(line, print(env, book, e)),
         StmtKind::Collect => Ok(()),
         StmtKind::Return(e) => at_line(line, return_(env, book, e, last)),
@@ -165,33 +178,29 @@ fn while_(env: &mut Env, book: &Book, e: u32, body: Span, line: u64) -> Result<(
     Ok(())
 }
 
-// `enter q as z { .. }`
+// `enter q as z { .. }` and `enter q as z { .. } giving w;`
 #[cycle(statement)]
-fn window(
-    env: &mut Env,
-    book: &Book,
-    path: Path,
-    name: u32,
-    body: Span,
-    line: u64,
-) -> Result<(), Stop>
-    requires path { IsPathIn book.now.program path }
-    requires name { IsNameIn book.now.program name }
+fn window(env: &mut Env, book: &Book, entrance: Entrance, body: Span, line: u64) -> Result<(), Stop>
+    requires path { IsPathIn book.now.program entrance.path }
+    requires name { IsNameIn book.now.program entrance.name }
+    requires giving { IfSome entrance.giving (IsNameIn book.now.program) }
     requires body { IsBlockIn book.now.program body }
     requires scope { IsReadable book.now.program env.old }
     requires room { let t = book.now.program in
         length env.old.slots + suc (block_names (block_of t body)) ≤ BODY_NAMES }
     ensures judged { let t = book.now.program in
         LeavesAs (rules.judge_kind (program_of t).classes None line (env_of t env.old)
-        (forms.enter (path_of t path) (name_at t name) (block_of t body)))
+        (forms.enter (path_of t entrance.path) (name_at t entrance.name) (block_of t body)
+        (option_map (name_at t) entrance.giving)))
         (env_of t env.new) result }
     ensures scope { OnOk result (IsReadable book.now.program env.new) }
 {
     let outside = env.save();
-    enter(env, book, path, name, line)?;
+    enter(env, book, entrance.path, entrance.name, line)?;
     block(env, book, body)?;
+    given(env, book, entrance, line)?;
     env.close(outside.depth, outside.len);
-    leave(env, book, path);
+    leave(env, book, entrance.path);
     Ok(())
 }
 

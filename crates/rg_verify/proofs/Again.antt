@@ -12,11 +12,13 @@ use Rattle.rg_verify.specs.declared.part.Part.{Part}
 use Rattle.rg_verify.specs.declared.part.Part.TheVariants as part
 use Rattle.rg_verify.specs.declared.part.Junction.{Junction}
 use Rattle.rg_verify.specs.declared.part.Junction.TheVariants as junctions
-use Rattle.rg_verify.specs.Raised.{Raised, number, boolean, nil, path, is_nil, neg, not, binary, ops_of, all_ops}
+use Rattle.rg_verify.specs.Raised.{Raised, number, boolean, nil, path, is_nil, size, element, neg, not, binary, Front, expression, object, place}
+use Rattle.rg_verify.specs.Raised.{path_ops}
+use Rattle.rg_verify.specs.Raised.{holder_ops, ops_of, place_ops, front_ops, fronts_ops}
 use Rattle.rg_verify.specs.Parts.{part_of, Ends}
 use Rattle.rg_verify.specs.Raises.{Stand, StandOnce}
-use Rattle.rg_verify.specs.Raising.{Item, tree, waits, settle, act, walk, trees, raised, operator_of}
-use Rattle.rg_verify.proofs.Settling.{jump_of, junction-code, junction-gap, Waits, Rests, settle-before, settle-rests, settle-taken}
+use Rattle.rg_verify.specs.Raising.{Item, tree, checked, indexed, waits, settle, act, walk, fronts, raised, operator_of}
+use Rattle.rg_verify.proofs.Settling.{jump_of, junction-code, junction-gap, element-ops, Waits, Rests, settle-before, settle-rests, settle-taken}
 
 -- one instruction of a walk
 step : (o : Op) (p : Part) (os : List Op) (here : ℕ) (items new : List Item) → part_of o ≡ Some p → act p (suc here) items ≡ Some new
@@ -54,6 +56,8 @@ Goes r here =
 waits-sooner : (sooner end : ℕ) (items : List Item) → sooner ≤ end → Waits end items → Waits sooner items
 waits-sooner sooner end [] le w = tt
 waits-sooner sooner end (tree a ∷ below) le w = tt
+waits-sooner sooner end (checked s ks ∷ below) le w = tt
+waits-sooner sooner end (indexed s ks e ∷ below) le w = tt
 waits-sooner sooner end (waits j a to ∷ below) le w = omega (arith, le, w)
 
 -- a tree of one instruction
@@ -144,6 +148,49 @@ along-path s ks here rest items w =
     ∙ fields ks s [] (suc here) rest items (subst (λ (n : ℕ). Waits n items) (sym long) w)
     ∙ ap (λ (n : ℕ). walk rest n (settle n (path s ks) items)) long
 
+-- an object, in front of more
+to-object : (s : ℕ) (ks : List ℕ) (here : ℕ) (rest : List Op) (items : List Item) (end : ℕ) → here + length (path_ops s ks) < end → Waits end items
+    → walk (holder_ops s ks ++ rest) here items ≡ walk rest (here + length (holder_ops s ks)) (checked s ks ∷ items)
+to-object s ks here rest items end lt w =
+    let code = path_ops s ks in
+    let there : suc (here + length code) ≡ here + length (code ++ i.Check ∷ []) = omega (arith, length-append code (i.Check ∷ [])) in
+    first (path s ks) here (i.Check ∷ []) rest items end (along-path s ks here) lt w
+    ∙ step i.Check part.Check rest (here + length code) (tree (path s ks) ∷ items) (checked s ks ∷ items) refl refl
+    ∙ ap (λ (n : ℕ). walk rest n (checked s ks ∷ items)) there
+
+-- a place in an array, in front of more
+to-place : (s : ℕ) (ks : List ℕ) (a : Raised) (here : ℕ) (rest : List Op) (items : List Item) (end : ℕ) → ((n : ℕ) → Goes a n)
+    → here + length (path_ops s ks) < end → Waits end items
+    → walk (place_ops here s ks a ++ rest) here items ≡ walk rest (here + length (place_ops here s ks a)) (indexed s ks a ∷ items)
+to-place s ks a here rest items end goes_a lt w =
+    let array = holder_ops s ks in
+    let n : ℕ = here + length array in
+    let code = ops_of n a in
+    let there : suc (n + length code) ≡ here + length (array ++ (code ++ i.Bound ∷ [])) =
+    omega (arith, length-append array (code ++ i.Bound ∷ []), length-append code (i.Bound ∷ [])) in
+    ap (λ (os : List Op). walk os here items) (append_assoc array (code ++ i.Bound ∷ []) rest)
+    ∙ to-object s ks here ((code ++ i.Bound ∷ []) ++ rest) items end lt w
+    ∙ ap (λ (os : List Op). walk os n (checked s ks ∷ items)) (append_assoc code (i.Bound ∷ []) rest)
+    ∙ goes_a n (i.Bound ∷ rest) (checked s ks ∷ items) tt
+    ∙ step i.Bound part.Bound rest (n + length code) (tree a ∷ checked s ks ∷ items) (indexed s ks a ∷ items) refl refl
+    ∙ ap (λ (m : ℕ). walk rest m (indexed s ks a ∷ items)) there
+
+along-element : (s : ℕ) (ks : List ℕ) (a : Raised) (here : ℕ) → ((n : ℕ) → Goes a n) → Goes (element s ks a) here
+along-element s ks a here goes_a rest items w =
+    let array = holder_ops s ks in
+    let code = place_ops here s ks a in
+    let is : ops_of here (element s ks a) ≡ code ++ i.Element ∷ [] = element-ops here s ks a i.Element refl in
+    let whole : ℕ = here + length (ops_of here (element s ks a)) in
+    let end : suc (here + length code) ≡ whole = omega (arith, ap length is, length-append code (i.Element ∷ [])) in
+    let lt : here + length (path_ops s ks) < whole =
+    omega (arith, end, length-append array (ops_of (here + length array) a ++ i.Bound ∷ []), length-append (path_ops s ks) (i.Check ∷ [])) in
+    ap (λ (os : List Op). walk (os ++ rest) here items) is
+    ∙ ap (λ (os : List Op). walk os here items) (append_assoc code (i.Element ∷ []) rest)
+    ∙ to-place s ks a here (i.Element ∷ rest) items whole goes_a lt w
+    ∙ step i.Element part.Element rest (here + length code) (indexed s ks a ∷ items)
+    (settle (suc (here + length code)) (element s ks a) items) refl refl
+    ∙ ap (λ (n : ℕ). walk rest n (settle n (element s ks a) items)) end
+
 pub goes : (r : Raised) (here : ℕ) → Goes r here
 goes (number z) here rest items w = came (i.Int z) (part.Int z) (number z) here rest items refl refl
 goes (boolean b) here rest items w = came (i.Bool b) (part.Bool b) (boolean b) here rest items refl refl
@@ -151,6 +198,9 @@ goes nil here rest items w = came i.Nil part.Nil nil here rest items refl refl
 goes (path s ks) here rest items w = along-path s ks here rest items w
 goes (is_nil s ks) here rest items w =
     one-more (path s ks) (is_nil s ks) i.IsNil part.IsNil here rest items refl (λ end. refl) (along-path s ks here) w
+goes (size s ks) here rest items w =
+    one-more (path s ks) (size s ks) i.Size part.Size here rest items refl (λ end. refl) (along-path s ks here) w
+goes (element s ks a) here rest items w = along-element s ks a here (goes a) rest items w
 goes (neg a) here rest items w = one-more a (neg a) i.Neg part.Neg here rest items refl (λ end. refl) (goes a here) w
 goes (not a) here rest items w = one-more a (not a) i.Not part.Not here rest items refl (λ end. refl) (goes a here) w
 goes (binary op.Or x y) here rest items w = between junctions.Or x y here (goes x here) (goes y) rest items w
@@ -167,37 +217,65 @@ goes (binary op.Mul x y) here rest items w = strict op.Mul i.Mul refl (λ end ri
 goes (binary op.Div x y) here rest items w = strict op.Div i.Div refl (λ end right. refl) refl x y here (goes x here) (goes y) rest items w
 goes (binary op.Rem x y) here rest items w = strict op.Rem i.Rem refl (λ end right. refl) refl x y here (goes x here) (goes y) rest items w
 
--- Expressions in order
+-- Fronts in order
 
--- trees that come one after the other on a stack of trees
-abbrev piled : List Raised → List Item → List Item
+-- the item that a front is
+abbrev on : Front → Item
+on (expression r) = tree r
+on (object s ks) = checked s ks
+on (place s ks a) = indexed s ks a
+
+on-rests : (f : Front) (items : List Item) → Rests (on f ∷ items)
+on-rests (expression r) items = tt
+on-rests (object s ks) items = tt
+on-rests (place s ks a) items = tt
+
+on-fronts : (f : Front) (items : List Item) (done : List Front) → fronts (on f ∷ items) done ≡ fronts items (f ∷ done)
+on-fronts (expression r) items done = refl
+on-fronts (object s ks) items done = refl
+on-fronts (place s ks a) items done = refl
+
+-- where nothing waits on top, nothing waits for an earlier end
+rests-wait : (end : ℕ) (items : List Item) → Rests items → Waits end items
+rests-wait end [] w = tt
+rests-wait end (waits j a to ∷ below) w = absurd w
+rests-wait end (x ∷ below) w = tt
+
+-- fronts that come one after the other on a stack
+abbrev piled : List Front → List Item → List Item
 piled [] items = items
-piled (r ∷ rs) items = piled rs (tree r ∷ items)
+piled (f ∷ fs) items = piled fs (on f ∷ items)
 
-all-goes : (rs : List Raised) (here : ℕ) (rest : List Op) (items : List Item) → Rests items
-    → walk (all_ops here rs ++ rest) here items ≡ walk rest (here + length (all_ops here rs)) (piled rs items)
+front-goes : (f : Front) (here : ℕ) (rest : List Op) (items : List Item) → Rests items
+    → walk (front_ops here f ++ rest) here items ≡ walk rest (here + length (front_ops here f)) (on f ∷ items)
+front-goes (expression r) here rest items w =
+    let m : ℕ = here + length (ops_of here r) in
+    goes r here rest items (rests-wait m items w) ∙ ap (walk rest m) (settle-rests m r items w)
+front-goes (object s ks) here rest items w =
+    let end : ℕ = suc (here + length (path_ops s ks)) in
+    to-object s ks here rest items end (omega arith) (rests-wait end items w)
+front-goes (place s ks a) here rest items w =
+    let end : ℕ = suc (here + length (path_ops s ks)) in
+    to-place s ks a here rest items end (goes a) (omega arith) (rests-wait end items w)
+
+all-goes : (fs : List Front) (here : ℕ) (rest : List Op) (items : List Item) → Rests items
+    → walk (fronts_ops here fs ++ rest) here items ≡ walk rest (here + length (fronts_ops here fs)) (piled fs items)
 all-goes [] here rest items w =
     let zeroth : here ≡ here + 0 = omega arith in
     ap (λ (n : ℕ). walk rest n items) zeroth
-all-goes (r ∷ rs) here rest items w =
-    let code = ops_of here r in
+all-goes (f ∷ fs) here rest items w =
+    let code = front_ops here f in
     let m : ℕ = here + length code in
-    let others = all_ops m rs in
+    let others = fronts_ops m fs in
     let end : m + length others ≡ here + length (code ++ others) = omega (arith, length-append code others) in
     ap (λ (os : List Op). walk os here items) (append_assoc code others rest)
-    ∙ goes r here (others ++ rest) items (waiting items w)
-    ∙ ap (walk (others ++ rest) m) (settle-rests m r items w)
-    ∙ all-goes rs m rest (tree r ∷ items) tt
-    ∙ ap (λ (n : ℕ). walk rest n (piled rs (tree r ∷ items))) end
-  where
-    waiting : (items : List Item) → Rests items → Waits (here + length (ops_of here r)) items
-    waiting [] w = tt
-    waiting (tree a ∷ below) w = tt
-    waiting (waits j a to ∷ below) w = absurd w
+    ∙ front-goes f here (others ++ rest) items w
+    ∙ all-goes fs m rest (on f ∷ items) (on-rests f items)
+    ∙ ap (λ (n : ℕ). walk rest n (piled fs (on f ∷ items))) end
 
-piled-trees : (rs : List Raised) (items : List Item) (done : List Raised) → trees (piled rs items) done ≡ trees items (rs ++ done)
-piled-trees [] items done = refl
-piled-trees (r ∷ rs) items done = piled-trees rs (tree r ∷ items) done
+piled-fronts : (fs : List Front) (items : List Item) (done : List Front) → fronts (piled fs items) done ≡ fronts items (fs ++ done)
+piled-fronts [] items done = refl
+piled-fronts (f ∷ fs) items done = piled-fronts fs (on f ∷ items) done ∙ on-fronts f items (fs ++ done)
 
 -- a walk stops in front of what no expression has
 stops : (rest : List Op) (here : ℕ) (items : List Item) → Ends rest → walk rest here items ≡ Some (items, here)
@@ -205,23 +283,23 @@ unfolding walk
 stops [] here items e = refl
 stops (o ∷ os) here items e = rw (walk, e) refl
 
--- expressions are raised from their code
-pub raised-again : (rs : List Raised) (at : ℕ) (rest : List Op) → Ends rest
-    → raised (all_ops at rs ++ rest) at ≡ Some (rs, at + length (all_ops at rs))
+-- fronts are raised from their code
+pub raised-again : (fs : List Front) (at : ℕ) (rest : List Op) → Ends rest
+    → raised (fronts_ops at fs ++ rest) at ≡ Some (fs, at + length (fronts_ops at fs))
 unfolding raised
-raised-again rs at rest e =
-    let end : ℕ = at + length (all_ops at rs) in
-    let walked : walk (all_ops at rs ++ rest) at [] ≡ Some (piled rs [], end) = all-goes rs at rest [] tt ∙ stops rest end (piled rs []) e in
-    let found : trees (piled rs []) [] ≡ Some rs = piled-trees rs [] [] ∙ ap Some (append-nil rs) in
+raised-again fs at rest e =
+    let end : ℕ = at + length (fronts_ops at fs) in
+    let walked : walk (fronts_ops at fs ++ rest) at [] ≡ Some (piled fs [], end) = all-goes fs at rest [] tt ∙ stops rest end (piled fs []) e in
+    let found : fronts (piled fs []) [] ≡ Some fs = piled-fronts fs [] [] ∙ ap Some (append-nil fs) in
     rw (raised, walked, found) refl
 
-pub stand-raised : (ops : List Op) (at : ℕ) (rs : List Raised) (end : ℕ) → Stand ops at rs end → raised ops at ≡ Some (rs, end)
-stand-raised ops at rs end s =
-    rw s.parts (raised-again rs at s.rest s.ends) ∙ ap (λ (n : ℕ). Some (rs, n)) (sym s.place)
+pub stand-raised : (ops : List Op) (at : ℕ) (fs : List Front) (end : ℕ) → Stand ops at fs end → raised ops at ≡ Some (fs, end)
+stand-raised ops at fs end s =
+    rw s.parts (raised-again fs at s.rest s.ends) ∙ ap (λ (n : ℕ). Some (fs, n)) (sym s.place)
 
 pub stand-once : StandOnce
-stand-once ops at rs ss m n s t =
-    let x : List Raised × ℕ = (rs, m) in
-    let y : List Raised × ℕ = (ss, n) in
-    let both : x ≡ y = same_Some x y (sym (stand-raised ops at rs m s) ∙ stand-raised ops at ss n t) in
-    (ap (λ (z : List Raised × ℕ). z.0) both, ap (λ (z : List Raised × ℕ). z.1) both)
+stand-once ops at fs gs m n s t =
+    let x : List Front × ℕ = (fs, m) in
+    let y : List Front × ℕ = (gs, n) in
+    let both : x ≡ y = same_Some x y (sym (stand-raised ops at fs m s) ∙ stand-raised ops at gs n t) in
+    (ap (λ (z : List Front × ℕ). z.0) both, ap (λ (z : List Front × ℕ). z.1) both)

@@ -1,5 +1,5 @@
 -- Blocks with their code and their names, and told from their code, computed.
-use Rattle.std.proofs.Common.{◌≡◌, ℕ, pos, false, true, List, [], ◌∷◌, ◌++◌, Some, None, codes, refl}
+use Rattle.std.proofs.Common.{◌≡◌, ℕ, pos, false, true, List, [], ◌∷◌, ◌++◌, replicate, Some, None, codes, refl}
 use Prim.Native.String.{String}
 use Rattle.std.specs.Fmt.{digits}
 use Rattle.rg_base.specs.declared.words.Cap.TheVariants as cap
@@ -12,9 +12,9 @@ use Rattle.rg_tree.specs.Tree.{Class, field, method}
 use Rattle.rg_code.specs.declared.op.Op.{Op}
 use Rattle.rg_code.specs.declared.op.Op.TheVariants as i
 use Rattle.rg_code.specs.Lowering.{method_scope}
-use Rattle.rg_verify.specs.Raised.{number, path, nil, is_nil, binary}
+use Rattle.rg_verify.specs.Raised.{number, path, nil, is_nil, size, element, binary}
 use Rattle.rg_verify.specs.declared.callee.Callee.{Callee}
-use Rattle.rg_verify.specs.Statements.{value, new, new_iso, freeze, result_of, Kind, declare, assign, write, call}
+use Rattle.rg_verify.specs.Statements.{value, new, new_tmp, new_iso, freeze, result_of, Kind, declare, assign, write, write_element, call}
 use Rattle.rg_verify.specs.Statements.{swap, branch, while, enter, enter_field, print, collect, return, no_else, otherwise, Block, empty}
 use Rattle.rg_verify.specs.Statements.{next, block_ops}
 use Rattle.rg_verify.specs.Found.{block_named, IsBlockFound}
@@ -53,6 +53,7 @@ classes =
     record {
       name = codes "c0";
       is_tmp = false;
+      element = None;
       members =
           field (record { name = codes "f0"; ty = tree.int; line = 1 })
           ∷ field (record { name = codes "f1"; ty = tree.ref cap.Iso (codes "c0"); line = 1 }) ∷ [];
@@ -114,10 +115,10 @@ loop-found = (
 -- enter v1 as v2 { v2.f0 = 9; } enter v0 as v2 { swap v1, v2.f1; } let v2: imm c0 = freeze v0; print v2.f1.f0;`
 abbrev owners : Block
 owners = in_line (
-    declare iso (new_iso 0 manager.Arena)
-    ∷ declare iso (new_iso 0 manager.Count)
-    ∷ enter 1 0 (in_line (write 2 [] 0 (value (number (pos 9))) ∷ []))
-    ∷ enter 0 0 (in_line (swap 1 2 [] 1 ∷ []))
+    declare iso (new_iso 0 None manager.Arena)
+    ∷ declare iso (new_iso 0 None manager.Count)
+    ∷ enter 1 0 (in_line (write 2 [] 0 (value (number (pos 9))) ∷ [])) None
+    ∷ enter 0 0 (in_line (swap 1 2 [] 1 ∷ [])) None
     ∷ declare (ty.Ref cap.Imm 0) (freeze 0)
     ∷ print (path 2 (1 ∷ 0 ∷ [])) ∷ []
     )
@@ -138,12 +139,12 @@ owners-code = refl
 owners-found : IsBlockFound classes [] false owners
 unfolding digits
 owners-found = (
-  (refl, refl),
+  (refl, (refl, tt)),
   (
-    (refl, refl),
+    (refl, (refl, tt)),
     (
-      (record { path = (refl, tt); class = refl }, (((refl, (refl, tt)), tt), tt)),
-      ((record { path = (refl, tt); class = refl }, ((refl, (refl, (refl, tt))), tt)), ((refl, refl), ((refl, (refl, (refl, tt))), tt))),
+      (record { path = (refl, tt); class = refl }, (((refl, (refl, tt)), tt), tt), tt),
+      ((record { path = (refl, tt); class = refl }, ((refl, (refl, (refl, tt))), tt), tt), ((refl, refl), ((refl, (refl, (refl, tt))), tt))),
     ),
   ),
 )
@@ -151,9 +152,9 @@ owners-found = (
 -- an object of the active region, whose field is entered: `let v0: mut c0 = new c0; v0.f1 = new iso c0 in trace; enter v0.f1 as v1 { collect; }`
 abbrev field_entered : Block
 field_entered = in_line (
-    declare mut (new 0)
-    ∷ write 0 [] 1 (new_iso 0 manager.Trace)
-    ∷ enter_field 0 [] 1 0 (in_line (collect ∷ [])) ∷ []
+    declare mut (new 0 None)
+    ∷ write 0 [] 1 (new_iso 0 None manager.Trace)
+    ∷ enter_field 0 [] 1 0 (in_line (collect ∷ [])) None ∷ []
     )
 
 field_entered-code : block_ops [] 0 field_entered
@@ -196,7 +197,7 @@ descent_method = record {
 }
 
 abbrev descents : List Class
-descents = record { name = codes "c0"; is_tmp = false; members = method descent_method ∷ []; line = 1 } ∷ []
+descents = record { name = codes "c0"; is_tmp = false; element = None; members = method descent_method ∷ []; line = 1 } ∷ []
 
 descent-found : IsBlockFound descents (method_scope descents 0 descent_method) true descent
 unfolding digits
@@ -267,3 +268,94 @@ choice-told = refl
 choice-apart : block_told (choice_given i.Pop) 64 (iso ∷ mut ∷ []) 0 ≡ None
 unfolding block_told raised walk
 choice-apart = refl
+
+-- Arrays, and a window that gives its bridge
+
+-- `class c0 { f0: int; f1: iso c0; } class c1 [mut c0]; class c2 [int];`
+abbrev array_classes : List Class
+array_classes =
+    classes
+    ++ record { name = codes "c1"; is_tmp = false; element = Some (tree.ref cap.Mut (codes "c0")); members = []; line = 1 }
+    ∷ record { name = codes "c2"; is_tmp = true; element = Some tree.int; members = []; line = 1 } ∷ []
+
+abbrev mut_row : Ty
+mut_row = ty.Ref cap.Mut 1
+
+abbrev tmp_row : Ty
+tmp_row = ty.Ref cap.Tmp 2
+
+-- `let v0: mut c1 = new c1 [3]; let v1: tmp c2 = new tmp c2 [size v0]; v0[1] = new c0; v1[v1[0]] = size v0 + 2; let v2: mut c0 = v0[1];`
+abbrev arrays : Block
+arrays = in_line (
+    declare mut_row (new 1 (Some (number (pos 3))))
+    ∷ declare tmp_row (new_tmp 2 (Some (size 0 [])))
+    ∷ write_element 0 [] (number (pos 1)) (new 0 None)
+    ∷ write_element 1 [] (element 1 [] (number (pos 0))) (value (binary op.Add (size 0 []) (number (pos 2))))
+    ∷ declare mut (value (element 0 [] (number (pos 1)))) ∷ []
+    )
+
+abbrev arrays_ops : List Op
+arrays_ops =
+    i.Mark 1 ∷ i.Int (pos 3) ∷ i.NewArray 1 ∷ i.Store 0 ∷ i.Pace
+    ∷ i.Mark 1 ∷ i.Load 0 ∷ i.Size ∷ i.NewTmpArray 2 ∷ i.Store 1
+    ∷ i.Mark 1 ∷ i.Load 0 ∷ i.Check ∷ i.Int (pos 1) ∷ i.Bound ∷ i.New 0 ∷ i.PutElement ∷ i.Pace
+    ∷ i.Mark 1 ∷ i.Load 1 ∷ i.Check ∷ i.Load 1 ∷ i.Check ∷ i.Int (pos 0) ∷ i.Bound ∷ i.Element ∷ i.Bound ∷ i.Load 0 ∷ i.Size ∷ i.Int (pos 2) ∷ i.Add
+    ∷ i.PutElement
+    ∷ i.Mark 1 ∷ i.Load 0 ∷ i.Check ∷ i.Int (pos 1) ∷ i.Bound ∷ i.Element ∷ i.Store 2 ∷ []
+
+arrays-code : block_ops [] 0 arrays ≡ arrays_ops
+arrays-code = refl
+
+abbrev array_maps : List (List Ty)
+array_maps =
+    replicate 5 [] ++ (mut_row ∷ []) ∷ (replicate 4 [] ++ (mut_row ∷ tmp_row ∷ []) ∷ (replicate 28 [] ++ (mut_row ∷ tmp_row ∷ mut ∷ []) ∷ []))
+
+arrays-told : block_told (record { ops = arrays_ops ++ i.Mark 1 ∷ i.End 0 ∷ i.Halt ∷ []; maps = array_maps; methods = [] })
+    64 [] 0 ≡ Some (arrays, 39)
+unfolding block_told raised walk
+arrays-told = refl
+
+arrays-found : IsBlockFound array_classes [] false arrays
+unfolding digits
+arrays-found = (
+  (refl, (refl, tt)),
+  (
+    (refl, (refl, (refl, tt))),
+    (
+      ((refl, tt), tt, (refl, tt)),
+      (((refl, tt), ((refl, tt), tt), ((refl, tt), tt)), ((refl, ((refl, tt), tt)), tt)),
+    ),
+  ),
+)
+
+-- `let v0: iso c0 = new iso c0 in trace; enter v0 as v1 { let v2: mut c0 = new c0; } giving v2;`
+abbrev giving : Block
+giving = in_line (
+    declare iso (new_iso 0 None manager.Trace)
+    ∷ enter 0 0 (in_line (declare mut (new 0 None) ∷ [])) (Some 2) ∷ []
+    )
+
+abbrev giving_ops : List Op
+giving_ops =
+    i.Mark 1 ∷ i.NewIso 0 manager.Trace ∷ i.Store 0
+    ∷ i.Mark 1 ∷ i.Enter 0 1
+    ∷ i.Mark 1 ∷ i.New 0 ∷ i.Store 2 ∷ i.Pace
+    ∷ i.Mark 1 ∷ i.LeaveGiving 2 1 ∷ []
+
+giving-code : block_ops [] 0 giving ≡ giving_ops
+giving-code = refl
+
+giving-told : block_told (record {
+  ops = giving_ops ++ i.Mark 1 ∷ i.End 0 ∷ i.Halt ∷ [];
+  maps = [] ∷ [] ∷ [] ∷ (iso ∷ []) ∷ [] ∷ (iso ∷ mut ∷ []) ∷ [] ∷ [] ∷ [] ∷ (iso ∷ mut ∷ mut ∷ []) ∷ [];
+  methods = [];
+}) 64 [] 0 ≡ Some (giving, 11)
+unfolding block_told raised walk
+giving-told = refl
+
+giving-found : IsBlockFound classes [] false giving
+unfolding digits
+giving-found = (
+  (refl, (refl, tt)),
+  ((record { path = (refl, tt); class = refl }, ((refl, (refl, tt)), tt), refl), tt),
+)

@@ -1,6 +1,6 @@
 -- The block that is raised at an address has the code that stands there.
 use Rattle.std.proofs.Common.{◌≡◌, ◌==◌, ℕ, zero, suc, ◌+◌, if◌then◌else◌, Bool as Truth, true, false, not, List, [], ◌∷◌, ◌++◌, length, slice_get}
-use Rattle.std.proofs.Common.{Option, Some, None, refl, sym, ap, ◌∙◌, subst, arith}
+use Rattle.std.proofs.Common.{Option, Some, None, refl, sym, ap, ◌∙◌, subst, append_assoc, arith}
 use Rattle.std.proofs.lemmas.List.{append-nil}
 use Rattle.std.proofs.lemmas.Option.{same_Some}
 use Rattle.rg_base.specs.declared.ty.Ty.{Ty}
@@ -18,20 +18,24 @@ use Rattle.rg_verify.specs.declared.signs.Walk.{Walk}
 use Rattle.rg_verify.specs.declared.signs.Walk.TheVariants as walk
 use Rattle.rg_verify.specs.declared.signs.Behind.{Behind}
 use Rattle.rg_verify.specs.declared.signs.Behind.TheVariants as behind
-use Rattle.rg_verify.specs.Raised.{Raised, path_ops, ops_of, all_ops}
+use Rattle.rg_verify.specs.Raised.{Raised, Front, expression, object, place, path_ops, holder_ops, place_ops, ops_of, all_ops, fronts_ops}
 use Rattle.rg_verify.specs.Statements.{Call, Right, value, new, new_tmp, new_iso, freeze, merge, read, more, result_of, Kind, declare, assign, write}
-use Rattle.rg_verify.specs.Statements.{call, swap, branch, while, enter, enter_field, print, collect, return, no_else, otherwise, Block, empty, next}
-use Rattle.rg_verify.specs.Statements.{type_at, used, all_used, types_behind, types_inside, whole_ops, holder_ops, call_ops, right_ops, pace_ops}
+use Rattle.rg_verify.specs.Statements.{write_element, call, swap, branch, while, enter, enter_field, print, collect, return, no_else, otherwise}
+use Rattle.rg_verify.specs.Statements.{Block, empty}
+use Rattle.rg_verify.specs.Statements.{next, type_at, used, all_used, types_behind, types_inside, whole_ops, call_ops, right_ops, pace_ops, leave_op}
 use Rattle.rg_verify.specs.Statements.{kind_ops, block_ops}
 use Rattle.rg_verify.specs.Signs.{making_of, target_of, close_of, open_of, walk_of, behind_of, mark_of, call_of, put_of, jump_of, end_of, leave_of}
-use Rattle.rg_verify.specs.Signs.{left_of, pace_of, closing_of}
-use Rattle.rg_verify.specs.Blocks.{Given, sign, slot_type, bridge_class, exprs, path_in, cleared, called, is_room, right_of, right_by, right_behind}
-use Rattle.rg_verify.specs.Blocks.{paces, paced, stored, taken_by, taken, dropped, call_by, written_to, object_by, object, ended, Inner}
-use Rattle.rg_verify.specs.Blocks.{otherwise_told, jumped, tested, close_by, window, expr_by, open_by, kind_by, kind_told, starts_by, starts}
+use Rattle.rg_verify.specs.Signs.{put_element_of, left_of, pace_of, closing_of}
+use Rattle.rg_verify.specs.Blocks.{Given, sign, slot_type, bridge_class, fronts_at, values_in, path_in, cleared, called, is_room, right_of, right_by}
+use Rattle.rg_verify.specs.Blocks.{result_by, right_behind, paces, paced, stored, taken_by, taken, dropped, call_by, written_to, element_written}
+use Rattle.rg_verify.specs.Blocks.{room_by, swap_by, object_by, ended, Inner, otherwise_told, jumped, tested, close_by, window_end, window, expr_by}
+use Rattle.rg_verify.specs.Blocks.{open_by, kind_by}
+use Rattle.rg_verify.specs.Blocks.{kind_told, starts_by, starts}
 use Rattle.rg_verify.specs.Blocks.{is_last, followed, block_by, statements, block_told, Piece, RaisedBlocksStand}
-use Rattle.rg_verify.proofs.Pieces.{bind-some, then-some, test-some, equal, piece-nil, piece-then, piece-is, target_op, behind_op, left_op}
+use Rattle.rg_verify.proofs.Pieces.{bind-some, then-some, test-some, equal, piece-nil, piece-then, piece-parts, piece-is}
+use Rattle.rg_verify.proofs.Pieces.{target_op, walk_op, behind_op, left_op}
 use Rattle.rg_verify.proofs.Pieces.{target-is, close-is, open-is, walk-is, behind-is, mark-is, call-is, put-is, jump-is, end-is, leave-is, left-is}
-use Rattle.rg_verify.proofs.Pieces.{pace-is, path-is, sign-piece, making-piece, exprs-piece, cleared-piece}
+use Rattle.rg_verify.proofs.Pieces.{put-element-is, pace-is, path-is, values-ops, sign-piece, making-piece, fronts-piece, cleared-piece}
 
 not-true : (b : Truth) → not b ≡ true → b ≡ false
 not-true true e = absurd cc
@@ -50,15 +54,15 @@ left-code false false e = refl
 module _ (g : Given) where
   -- Right sides
 
-  path-piece : (at end : ℕ) (e : Raised) (p : ℕ × List ℕ) → path_in e ≡ Some p → Piece g.ops at (all_ops at (e ∷ [])) end
-      → Piece g.ops at (path_ops p.0 p.1) end
-  path-piece at end e p h q = piece-is g.ops (append-nil (ops_of at e) ∙ ap (ops_of at) (path-is e p h)) q
-
-  whole-piece : (types : List Ty) (at mid end : ℕ) (e : Raised) → Piece g.ops at (all_ops at (e ∷ [])) mid
+  whole-piece : (types : List Ty) (at mid end : ℕ) (e : Raised) → Piece g.ops at (ops_of at e) mid
       → cleared g.ops (all_used types (e ∷ [])) mid ≡ Some end → Piece g.ops at (whole_ops types at e) end
   whole-piece types at mid end e p h =
       let behind = piece-is g.ops (ap clears (append-nil (used types e))) (cleared-piece g (all_used types (e ∷ [])) mid end h) in
-      piece-then g.ops (piece-is g.ops (append-nil (ops_of at e)) p) behind
+      piece-then g.ops p behind
+
+  -- fronts of which the first is one thing, and the others stand behind it
+  alone-front : (at end : ℕ) (e : Raised) → Piece g.ops at (fronts_ops at (expression e ∷ [])) end → Piece g.ops at (ops_of at e) end
+  alone-front at end e p = piece-is g.ops (append-nil (ops_of at e)) p
 
   call-as : (types : List Ty) (at : ℕ) (made c : Call) (fin end : ℕ) → ◌≡◌ {A = Option (Call × ℕ)} (Some (made, fin)) (Some (c, end))
       → Piece g.ops at (call_ops types at made) fin → Piece g.ops at (call_ops types at c) end
@@ -72,51 +76,69 @@ module _ (g : Given) where
       let same : (made, fin) ≡ (r, end) = same_Some _ _ e in
       subst (λ (x : Right × ℕ). Piece g.ops at (right_ops types at x.0) x.1) same p
 
-  called-piece : (types : List Ty) (at b d end : ℕ) (e : Raised) (args : List Raised) (c : Call) → Piece g.ops at (all_ops at (e ∷ [])) b
-      → Piece g.ops b (i.Check ∷ []) (suc b) → Piece g.ops (suc b) (all_ops (suc b) args) d → Piece g.ops d (i.Room ∷ []) (suc d)
-      → called g types e args (suc d) ≡ Some (c, end) → Piece g.ops at (call_ops types at c) end
-  called-piece types at b d end e args c front check middle room h =
-      let (p, pe, h1) = bind-some (path_in e) _ (c, end) h in
-      let (behind, cl, h2) = bind-some (cleared g.ops (all_used types args) (suc d)) _ (c, end) h1 in
-      let (m, me, h3) = bind-some (sign call_of g.ops behind) _ (c, end) h2 in
-      let (callee, ce, h4) = bind-some (slice_get g.methods m) _ (c, end) h3 in
-      let made : Call = record { slot = p.0; fields = p.1; callee = record callee { number = m }; args = args } in
-      let holder : Piece g.ops at (holder_ops p.0 p.1) (suc b) = piece-then g.ops (path-piece at b e p pe front) check in
-      let args_there : Piece g.ops (suc b) (all_ops (at + length (holder_ops p.0 p.1)) args) d =
-      subst (λ (n : ℕ). Piece g.ops (suc b) (all_ops n args) d) holder.place middle in
-      let tail = piece-then g.ops (cleared-piece g (all_used types args) (suc d) behind cl) (sign-piece g call-is behind m me) in
-      call-as types at made c (suc behind) end h4 (piece-then g.ops holder (piece-then g.ops args_there (piece-then g.ops room tail)))
+  called-piece : (types : List Ty) (at d end : ℕ) (s : ℕ) (ks : List ℕ) (args : List Raised) (c : Call)
+      → Piece g.ops at (holder_ops s ks ++ all_ops (at + length (holder_ops s ks)) args) d → Piece g.ops d (i.Room ∷ []) (suc d)
+      → called g types s ks args (suc d) ≡ Some (c, end) → Piece g.ops at (call_ops types at c) end
+  called-piece types at d end s ks args c front room h =
+      let (behind, cl, h1) = bind-some (cleared g.ops (all_used types args) (suc d)) _ (c, end) h in
+      let (m, me, h2) = bind-some (sign call_of g.ops behind) _ (c, end) h1 in
+      let (callee, ce, h3) = bind-some (slice_get g.methods m) _ (c, end) h2 in
+      let made : Call = record { slot = s; fields = ks; callee = record callee { number = m }; args = args } in
+      let holder = holder_ops s ks in
+      let given = all_ops (at + length holder) args in
+      let tail = piece-then g.ops room
+      (piece-then g.ops (cleared-piece g (all_used types args) (suc d) behind cl) (sign-piece g call-is behind m me)) in
+      call-as types at made c (suc behind) end h3
+      (piece-is g.ops (append_assoc holder given (i.Room ∷ (clears (all_used types args) ++ i.Call m ∷ []))) (piece-then g.ops front tail))
+
+  -- an object, and expressions alone behind it
+  args-front : (at d : ℕ) (s : ℕ) (ks : List ℕ) (fs : List Front) (args : List Raised) → values_in fs ≡ Some args
+      → Piece g.ops at (fronts_ops at (object s ks ∷ fs)) d → Piece g.ops at (holder_ops s ks ++ all_ops (at + length (holder_ops s ks)) args) d
+  args-front at d s ks fs args e p =
+      piece-is g.ops (ap (λ (os : List Op). holder_ops s ks ++ os) (values-ops fs args (at + length (holder_ops s ks)) e)) p
 
   right-by-piece : (types : List Ty) (at b end : ℕ) (e : Raised) (r : Right) (w : Option Walk) → sign walk_of g.ops b ≡ w
-      → Piece g.ops at (all_ops at (e ∷ [])) b → right_by g types e b w ≡ Some (r, end) → Piece g.ops at (right_ops types at r) end
+      → Piece g.ops at (ops_of at e) b → right_by g types e b w ≡ Some (r, end) → Piece g.ops at (right_ops types at r) end
   right-by-piece types at b end e r None f front h =
       let (behind, cl, h1) = bind-some (cleared g.ops (all_used types (e ∷ [])) b) _ (r, end) h in
       right-as types at (value e) r behind end h1 (whole-piece types at b behind e front cl)
-  right-by-piece types at b end e r (Some walk.Check) f front h =
-      let (args, ae, h1) = bind-some (exprs g.ops (suc b)) _ (r, end) h in
-      let (sign_there, se, h2) = bind-some (sign behind_of g.ops args.1) _ (r, end) h1 in
-      let (is, h3) = test-some (is_room sign_there) _ (r, end) h2 in
-      let (c, ce, h4) = bind-some (called g types e args.0 (suc args.1)) _ (r, end) h3 in
-      let room : Piece g.ops args.1 (i.Room ∷ []) (suc args.1) =
-      piece-is g.ops (ap (λ (o : Op). o ∷ []) (room-is sign_there is)) (sign-piece g behind-is args.1 sign_there se) in
-      let middle = exprs-piece g (suc b) args.1 args.0 ae in
-      right-as types at (result_of c.0) r c.1 end h4
-      (called-piece types at b args.1 c.1 e args.0 c.0 front (sign-piece g walk-is b walk.Check f) middle room ce)
+  right-by-piece types at b end e r (Some (walk.New c)) f front h =
+      right-as types at (new c (Some e)) r (suc b) end h (piece-then g.ops front (sign-piece g walk-is b (walk.New c) f))
+  right-by-piece types at b end e r (Some (walk.NewTmp c)) f front h =
+      right-as types at (new_tmp c (Some e)) r (suc b) end h (piece-then g.ops front (sign-piece g walk-is b (walk.NewTmp c) f))
+  right-by-piece types at b end e r (Some (walk.NewIso c m)) f front h =
+      right-as types at (new_iso c (Some e) m) r (suc b) end h (piece-then g.ops front (sign-piece g walk-is b (walk.NewIso c m) f))
   right-by-piece types at b end e r (Some (walk.Enter k z)) f front h = absurd cc
 
-  right-piece : (types : List Ty) (at b end : ℕ) (rs : List Raised) (r : Right) → Piece g.ops at (all_ops at rs) b
-      → right_behind g types rs b ≡ Some (r, end) → Piece g.ops at (right_ops types at r) end
+  result-by-piece : (types : List Ty) (at b end : ℕ) (s : ℕ) (ks : List ℕ) (fs : List Front) (r : Right) (args : Option (List Raised))
+      → values_in fs ≡ args → Piece g.ops at (fronts_ops at (object s ks ∷ fs)) b → result_by g types s ks args b ≡ Some (r, end)
+      → Piece g.ops at (right_ops types at r) end
+  result-by-piece types at b end s ks fs r None e front h = absurd cc
+  result-by-piece types at b end s ks fs r (Some args) e front h =
+      let (sign_there, se, h1) = bind-some (sign behind_of g.ops b) _ (r, end) h in
+      let (is, h2) = test-some (is_room sign_there) _ (r, end) h1 in
+      let (c, ce, h3) = bind-some (called g types s ks args (suc b)) _ (r, end) h2 in
+      let room : Piece g.ops b (i.Room ∷ []) (suc b) =
+      piece-is g.ops (ap (λ (o : Op). o ∷ []) (room-is sign_there is)) (sign-piece g behind-is b sign_there se) in
+      right-as types at (result_of c.0) r c.1 end h3
+      (called-piece types at b c.1 s ks args c.0 (args-front at b s ks fs args e front) room ce)
+
+  right-piece : (types : List Ty) (at b end : ℕ) (fs : List Front) (r : Right) → Piece g.ops at (fronts_ops at fs) b
+      → right_behind g types fs b ≡ Some (r, end) → Piece g.ops at (right_ops types at r) end
   right-piece types at b end [] r front h =
       let (m, me, h1) = bind-some (sign making_of g.ops b) _ (r, end) h in
       right-as types at (right_of m) r (suc b) end h1 (piece-then g.ops front (making-piece g types at b m me))
-  right-piece types at b end (e ∷ []) r front h = right-by-piece types at b end e r (sign walk_of g.ops b) refl front h
-  right-piece types at b end (e ∷ f ∷ es) r front h = absurd cc
+  right-piece types at b end (expression e ∷ []) r front h =
+      right-by-piece types at b end e r (sign walk_of g.ops b) refl (alone-front at b e front) h
+  right-piece types at b end (expression e ∷ f ∷ fs) r front h = absurd cc
+  right-piece types at b end (object s ks ∷ fs) r front h = result-by-piece types at b end s ks fs r (values_in fs) refl front h
+  right-piece types at b end (place s ks e ∷ fs) r front h = absurd cc
 
   stays : (at end : ℕ) → Some at ≡ Some end → Piece g.ops at [] end
   stays at end e = subst (λ (n : ℕ). Piece g.ops at [] n) (same_Some _ _ e) (piece-nil g.ops at)
 
   paced-piece : (r : Right) (at end : ℕ) → paced g.ops (paces r) at ≡ Some end → Piece g.ops at (pace_ops r) end
-  paced-piece (new c) at end h =
+  paced-piece (new c n) at end h =
       let (u, there, f) = then-some (sign pace_of g.ops at) (Some (suc at)) end h in
       subst (λ (n : ℕ). Piece g.ops at (i.Pace ∷ []) n) (same_Some _ _ f) (sign-piece g pace-is at u there)
   paced-piece _ at end h = stays at end h
@@ -157,10 +179,10 @@ module _ (g : Given) where
     one : suc start ≡ start + 1
     one = omega arith
 
-    right-there : (b end : ℕ) (rs : List Raised) (r : Right) → Piece g.ops (suc start) (all_ops (suc start) rs) b
-        → right_behind g types rs b ≡ Some (r, end) → Piece g.ops (suc start) (right_ops types (start + 1) r) end
-    right-there b end rs r front h =
-        subst (λ (n : ℕ). Piece g.ops (suc start) (right_ops types n r) end) one (right-piece types (suc start) b end rs r front h)
+    right-there : (b end : ℕ) (fs : List Front) (r : Right) → Piece g.ops (suc start) (fronts_ops (suc start) fs) b
+        → right_behind g types fs b ≡ Some (r, end) → Piece g.ops (suc start) (right_ops types (start + 1) r) end
+    right-there b end fs r front h =
+        subst (λ (n : ℕ). Piece g.ops (suc start) (right_ops types n r) end) one (right-piece types (suc start) b end fs r front h)
 
     stored-code : (r : Right) (fin s : ℕ) (is_next : Truth) (k : Kind) → (s == length types) ≡ is_next → stored g types r fin s is_next ≡ Some k
         → i.Mark line ∷ right_ops types (start + 1) r ++ i.Store s ∷ pace_ops r ≡ kind_ops types start line k
@@ -200,65 +222,112 @@ module _ (g : Given) where
         stands-as (call c) k fin end h1
         (piece-then g.ops mark-piece (piece-then g.ops front (dropped-piece c.callee.result at fin fe)))
 
-    -- those that begin with an object, whose test stands at b
-    module _ (e : Raised) (b : ℕ) (front : Piece g.ops (suc start) (all_ops (suc start) (e ∷ [])) b)
-        (check : Piece g.ops b (i.Check ∷ []) (suc b)) where
-      written-piece : (rs : List Raised) (d end : ℕ) (k : Kind) → Piece g.ops (suc b) (all_ops (suc b) rs) d
-          → written_to g types e rs d ≡ Some (k, end) → Stands k end
-      written-piece rs d end k middle h =
-          let (p, pe, h1) = bind-some (path_in e) _ (k, end) h in
-          let (r, re, h2) = bind-some (right_behind g types rs d) _ (k, end) h1 in
-          let (f, fe, h3) = bind-some (sign put_of g.ops r.1) _ (k, end) h2 in
-          let (fin, ne, h4) = bind-some (paced g.ops (paces r.0) (suc r.1)) _ (k, end) h3 in
-          let holder : Piece g.ops (suc start) (holder_ops p.0 p.1) (suc b) = piece-then g.ops (path-piece (suc start) b e p pe front) check in
-          let there : suc b ≡ start + 1 + length (holder_ops p.0 p.1) = omega (arith, holder.place) in
-          let right : Piece g.ops (suc b) (right_ops types (start + 1 + length (holder_ops p.0 p.1)) r.0) r.1 =
-          subst (λ (n : ℕ). Piece g.ops (suc b) (right_ops types n r.0) r.1) there (right-piece types (suc b) d r.1 rs r.0 middle re) in
-          let tail = piece-then g.ops (sign-piece g put-is r.1 f fe) (paced-piece r.0 (suc r.1) fin ne) in
-          stands-as (write p.0 p.1 f r.0) k fin end h4
-          (piece-then g.ops mark-piece (piece-then g.ops holder (piece-then g.ops right tail)))
+    -- those that begin with an object, and then with more
+    module _ (s : ℕ) (ks : List ℕ) (fs : List Front) (d : ℕ) (front : Piece g.ops (suc start) (fronts_ops (suc start) (object s ks ∷ fs)) d) where
+      abbrev holder : List Op
+      holder = holder_ops s ks
 
-      object-by-piece : (rs : List Raised) (d end : ℕ) (k : Kind) (w : Option Behind) → sign behind_of g.ops d ≡ w
-          → Piece g.ops (suc b) (all_ops (suc b) rs) d → object_by g types e rs d w ≡ Some (k, end) → Stands k end
-      object-by-piece rs d end k (Some behind.Room) f middle h =
-          let (c, ce, h1) = bind-some (called g types e rs (suc d)) _ (k, end) h in
-          let whole = called-piece types (suc start) b d c.1 e rs c.0 front check middle (sign-piece g behind-is d behind.Room f) ce in
+      written-piece : (end : ℕ) (k : Kind) → written_to g types s ks fs d ≡ Some (k, end) → Stands k end
+      written-piece end k h =
+          let (r, re, h1) = bind-some (right_behind g types fs d) _ (k, end) h in
+          let (f, fe, h2) = bind-some (sign put_of g.ops r.1) _ (k, end) h1 in
+          let (fin, ne, h3) = bind-some (paced g.ops (paces r.0) (suc r.1)) _ (k, end) h2 in
+          let (object_there, others) = piece-parts g.ops (suc start) d holder (fronts_ops (suc start + length holder) fs) front in
+          let there : suc start + length holder ≡ start + 1 + length holder = omega arith in
+          let right : Piece g.ops (suc start + length holder) (right_ops types (start + 1 + length holder) r.0) r.1 =
+          subst (λ (n : ℕ). Piece g.ops (suc start + length holder) (right_ops types n r.0) r.1) there
+          (right-piece types (suc start + length holder) d r.1 fs r.0 others re) in
+          let tail = piece-then g.ops (sign-piece g put-is r.1 f fe) (paced-piece r.0 (suc r.1) fin ne) in
+          stands-as (write s ks f r.0) k fin end h3
+          (piece-then g.ops mark-piece (piece-then g.ops object_there (piece-then g.ops right tail)))
+
+      room-piece : (end : ℕ) (k : Kind) (args : Option (List Raised)) → values_in fs ≡ args → sign behind_of g.ops d ≡ Some behind.Room
+          → room_by g types s ks fs args d ≡ Some (k, end) → Stands k end
+      room-piece end k None e f h = written-piece end k h
+      room-piece end k (Some args) e f h =
+          let (c, ce, h1) = bind-some (called g types s ks args (suc d)) _ (k, end) h in
+          let whole = called-piece types (suc start) d c.1 s ks args c.0 (args-front (suc start) d s ks fs args e front)
+          (sign-piece g behind-is d behind.Room f) ce in
           call-by-piece c.0 c.1 end k (sign target_of g.ops c.1) refl
           (subst (λ (n : ℕ). Piece g.ops (suc start) (call_ops types n c.0) c.1) one whole) h1
-      object-by-piece [] d end k (Some (behind.Swap y j)) f middle h =
-          let (p, pe, h1) = bind-some (path_in e) _ (k, end) h in
-          let tail = piece-then g.ops check (piece-then g.ops middle (sign-piece g behind-is d (behind.Swap y j) f)) in
-          stands-as (swap y p.0 p.1 j) k (suc d) end h1
-          (piece-then g.ops mark-piece (piece-then g.ops (path-piece (suc start) b e p pe front) tail))
-      object-by-piece (r ∷ rs) d end k (Some (behind.Swap y j)) f middle h = absurd cc
-      object-by-piece rs d end k None f middle h = written-piece rs d end k middle h
 
-      object-piece : (end : ℕ) (k : Kind) → object g types e (suc b) ≡ Some (k, end) → Stands k end
-      object-piece end k h =
-          let (rs, re, h1) = bind-some (exprs g.ops (suc b)) _ (k, end) h in
-          object-by-piece rs.0 rs.1 end k (sign behind_of g.ops rs.1) refl (exprs-piece g (suc b) rs.1 rs.0 re) h1
+    swapped-piece : (s : ℕ) (ks : List ℕ) (fs : List Front) (d : ℕ) (y j end : ℕ) (k : Kind) → sign behind_of g.ops d ≡ Some (behind.Swap y j)
+        → Piece g.ops (suc start) (fronts_ops (suc start) (object s ks ∷ fs)) d → swap_by s ks fs y j d ≡ Some (k, end) → Stands k end
+    swapped-piece s ks [] d y j end k f front h =
+        let whole = piece-is g.ops (append-nil (holder_ops s ks)) front in
+        let swaps = piece-then g.ops whole (sign-piece g behind-is d (behind.Swap y j) f) in
+        stands-as (swap y s ks j) k (suc d) end h
+        (piece-then g.ops mark-piece (piece-is g.ops (append_assoc (path_ops s ks) (i.Check ∷ []) (i.Swap y j ∷ [])) swaps))
+    swapped-piece s ks (r ∷ rs) d y j end k f front h = absurd cc
+
+    object-by-piece : (s : ℕ) (ks : List ℕ) (fs : List Front) (d end : ℕ) (k : Kind) (w : Option Behind) → sign behind_of g.ops d ≡ w
+        → Piece g.ops (suc start) (fronts_ops (suc start) (object s ks ∷ fs)) d → object_by g types s ks fs d w ≡ Some (k, end) → Stands k end
+    object-by-piece s ks fs d end k (Some behind.Room) f front h = room-piece s ks fs d front end k (values_in fs) refl f h
+    object-by-piece s ks fs d end k (Some (behind.Swap y j)) f front h = swapped-piece s ks fs d y j end k f front h
+    object-by-piece s ks fs d end k None f front h = written-piece s ks fs d front end k h
+
+    -- those that begin with a place in an array
+    element-piece : (s : ℕ) (ks : List ℕ) (e : Raised) (fs : List Front) (d end : ℕ) (k : Kind)
+        → Piece g.ops (suc start) (fronts_ops (suc start) (place s ks e ∷ fs)) d → element_written g types s ks e fs d ≡ Some (k, end) → Stands k end
+    element-piece s ks e fs d end k front h =
+        let (r, re, h1) = bind-some (right_behind g types fs d) _ (k, end) h in
+        let (u, ue, h2) = then-some (sign put_element_of g.ops r.1) _ (k, end) h1 in
+        let (fin, ne, h3) = bind-some (paced g.ops (paces r.0) (suc r.1)) _ (k, end) h2 in
+        let (place_there, others) = piece-parts g.ops (suc start) d (place_ops (suc start) s ks e)
+        (fronts_ops (suc start + length (place_ops (suc start) s ks e)) fs) front in
+        let behind : ℕ = suc start + length (place_ops (suc start) s ks e) in
+        let place_is : Piece g.ops (suc start) (place_ops (start + 1) s ks e) behind =
+        subst (λ (n : ℕ). Piece g.ops (suc start) (place_ops n s ks e) behind) one place_there in
+        let there : behind ≡ start + 1 + length (place_ops (start + 1) s ks e) = omega (arith, place_is.place) in
+        let right : Piece g.ops behind (right_ops types (start + 1 + length (place_ops (start + 1) s ks e)) r.0) r.1 =
+        subst (λ (n : ℕ). Piece g.ops behind (right_ops types n r.0) r.1) there (right-piece types behind d r.1 fs r.0 others re) in
+        let tail = piece-then g.ops (sign-piece g put-element-is r.1 u ue) (paced-piece r.0 (suc r.1) fin ne) in
+        stands-as (write_element s ks e r.0) k fin end h3
+        (piece-then g.ops mark-piece (piece-then g.ops place_is (piece-then g.ops right tail)))
 
     -- those with blocks
     module _ (inner : Inner)
         (is : (types : List Ty) (at : ℕ) (b : Block) (end : ℕ) → inner types at ≡ Some (b, end) → Piece g.ops at (block_ops types at b) end) where
-      window-as : (made w : ℕ × Block) (at fin end : ℕ) → ◌≡◌ {A = Option ((ℕ × Block) × ℕ)} (Some (made, fin)) (Some (w, end))
-          → Piece g.ops at (block_ops (types_inside types made.0) at made.1 ++ i.Mark line ∷ i.Leave (length types) ∷ []) fin
-          → Piece g.ops at (block_ops (types_inside types w.0) at w.1 ++ i.Mark line ∷ i.Leave (length types) ∷ []) end
+      -- the code of a window, from its block on
+      abbrev window_ops : (at : ℕ) → ℕ × Block × Option ℕ → List Op
+      window_ops at w = block_ops (types_inside types w.0) at w.1 ++ i.Mark line ∷ leave_op (length types) w.2 ∷ []
+
+      window-as : (made w : ℕ × Block × Option ℕ) (at fin end : ℕ)
+          → ◌≡◌ {A = Option ((ℕ × Block × Option ℕ) × ℕ)} (Some (made, fin)) (Some (w, end))
+          → Piece g.ops at (window_ops at made) fin → Piece g.ops at (window_ops at w) end
       window-as made w at fin end e p =
           let same : (made, fin) ≡ (w, end) = same_Some _ _ e in
-          subst (λ (x : (ℕ × Block) × ℕ).
-          Piece g.ops at (block_ops (types_inside types x.0.0) at x.0.1 ++ i.Mark line ∷ i.Leave (length types) ∷ []) x.1) same p
+          subst (λ (x : (ℕ × Block × Option ℕ) × ℕ). Piece g.ops at (window_ops at x.0) x.1) same p
 
-      window-piece : (z at end : ℕ) (w : ℕ × Block) → window g inner types line z at ≡ Some (w, end)
-          → (z ≡ length types) × Piece g.ops at (block_ops (types_inside types w.0) at w.1 ++ i.Mark line ∷ i.Leave (length types) ∷ []) end
+      end-as : (made w : Option ℕ) (at fin end : ℕ) → ◌≡◌ {A = Option (Option ℕ × ℕ)} (Some (made, fin)) (Some (w, end))
+          → Piece g.ops at (i.Mark line ∷ leave_op (length types) made ∷ []) fin → Piece g.ops at (i.Mark line ∷ leave_op (length types) w ∷ []) end
+      end-as made w at fin end e p =
+          let same : (made, fin) ≡ (w, end) = same_Some _ _ e in
+          subst (λ (y : Option ℕ × ℕ). Piece g.ops at (i.Mark line ∷ leave_op (length types) y.0 ∷ []) y.1) same p
+
+      window-end-piece : (at end : ℕ) (w : Option ℕ) → window_end g.ops line (length types) at ≡ Some (w, end)
+          → Piece g.ops at (i.Mark line ∷ leave_op (length types) w ∷ []) end
+      window-end-piece at end w h =
+          let (l, le, h1) = bind-some (sign mark_of g.ops at) _ (w, end) h in
+          let (l_is, h2) = test-some (l == line) _ (w, end) h1 in
+          let (x, xe, h3) = bind-some (sign leave_of g.ops (suc at)) _ (w, end) h2 in
+          let (x_is, h4) = test-some (x.slot == length types) _ (w, end) h3 in
+          let mark : Piece g.ops at (i.Mark line ∷ []) (suc at) =
+          piece-is g.ops (ap (λ (m : ℕ). i.Mark m ∷ []) (equal l line l_is)) (sign-piece g mark-is at l le) in
+          let close : Piece g.ops (suc at) (leave_op (length types) x.given ∷ []) (suc (suc at)) =
+          piece-is g.ops (ap (λ (m : ℕ). leave_op m x.given ∷ []) (equal x.slot (length types) x_is)) (sign-piece g leave-is (suc at) x xe) in
+          end-as x.given w at (suc (suc at)) end h4 (piece-then g.ops mark close)
+
+      window-piece : (z at end : ℕ) (w : ℕ × Block × Option ℕ) → window g inner types line z at ≡ Some (w, end)
+          → (z ≡ length types) × Piece g.ops at (window_ops at w) end
       window-piece z at end w h =
           let (z_is, h1) = test-some (z == length types) _ (w, end) h in
           let (t, te, h2) = bind-some (slot_type g.ops g.maps at z) _ (w, end) h1 in
           let (c, ce, h3) = bind-some (bridge_class t) _ (w, end) h2 in
           let (b, be, h4) = bind-some (inner (types_inside types c) at) _ (w, end) h3 in
-          let (fin, fe, h5) = bind-some (ended leave_of g.ops line (length types) b.1) _ (w, end) h4 in
-          let whole = piece-then g.ops (is (types_inside types c) at b.0 b.1 be) (ended-piece leave-is line (length types) b.1 fin fe) in
-          (equal z (length types) z_is, window-as (c, b.0) w at fin end h5 whole)
+          let (x, xe, h5) = bind-some (window_end g.ops line (length types) b.1) _ (w, end) h4 in
+          let whole = piece-then g.ops (is (types_inside types c) at b.0 b.1 be) (window-end-piece b.1 x.1 x.0 xe) in
+          (equal z (length types) z_is, window-as (c, b.0, x.0) w at x.1 end h5 whole)
 
       open-by-piece : (b end : ℕ) (k : Kind) (w : Option Open) → sign open_of g.ops b ≡ w → Piece g.ops (suc start) [] b
           → open_by g inner types line b w ≡ Some (k, end) → Stands k end
@@ -274,10 +343,9 @@ module _ (g : Given) where
           let there : suc b ≡ start + 1 + 1 = omega (arith, front.place) in
           let enters : Piece g.ops b (i.Enter s (length types) ∷ []) (suc b) =
           piece-is g.ops (ap (λ (n : ℕ). i.Enter s n ∷ []) z_is) (sign-piece g open-is b (opens.Enter s z) f) in
-          let end_there : List Op = i.Mark line ∷ i.Leave (length types) ∷ [] in
-          let inside : Piece g.ops (suc b) (block_ops (types_inside types w.0.0) (start + 1 + 1) w.0.1 ++ end_there) w.1 =
-          subst (λ (n : ℕ). Piece g.ops (suc b) (block_ops (types_inside types w.0.0) n w.0.1 ++ end_there) w.1) there block in
-          stands-as (enter s w.0.0 w.0.1) k w.1 end h1
+          let inside : Piece g.ops (suc b) (window_ops (start + 1 + 1) w.0) w.1 =
+          subst (λ (n : ℕ). Piece g.ops (suc b) (window_ops n w.0) w.1) there block in
+          stands-as (enter s w.0.0 w.0.1 w.0.2) k w.1 end h1
           (piece-then g.ops mark-piece (piece-then g.ops (piece-then g.ops front enters) inside))
 
       -- those with a test, whose jump stands at t
@@ -365,39 +433,51 @@ module _ (g : Given) where
           stands-as (return e) k (suc at) end h (piece-then g.ops mark-piece (piece-then g.ops front (sign-piece g close-is at close.Return f)))
       close-by-piece e at end k (Some (close.Test to)) f front h = tested-piece e at to front (sign-piece g close-is at (close.Test to) f) end k h
 
+      -- a right side that begins with an expression alone, behind which an instruction makes an array
+      array-piece : (e : Raised) (b end : ℕ) (k : Kind) (w : Walk) → sign walk_of g.ops b ≡ Some w → Piece g.ops (suc start) (ops_of (suc start) e) b
+          → (r : Right × ℕ) → right_by g types e b (Some w) ≡ Some r → taken g types r.0 r.1 ≡ Some (k, end) → Stands k end
+      array-piece e b end k w f front r re h =
+          let there = right-by-piece types (suc start) b r.1 e r.0 (Some w) f front re in
+          taken-piece r.0 r.1 end k (subst (λ (n : ℕ). Piece g.ops (suc start) (right_ops types n r.0) r.1) one there) h
+
       expr-by-piece : (e : Raised) (b end : ℕ) (k : Kind) (w : Option Walk) → sign walk_of g.ops b ≡ w
-          → Piece g.ops (suc start) (all_ops (suc start) (e ∷ [])) b → expr_by g inner types line start e b w ≡ Some (k, end) → Stands k end
+          → Piece g.ops (suc start) (ops_of (suc start) e) b → expr_by g inner types line start e b w ≡ Some (k, end) → Stands k end
       expr-by-piece e b end k None f front h =
           let (behind, cl, h1) = bind-some (cleared g.ops (all_used types (e ∷ [])) b) _ (k, end) h in
           let whole = whole-piece types (suc start) b behind e front cl in
           let whole = subst (λ (n : ℕ). Piece g.ops (suc start) (whole_ops types n e) behind) one whole in
           close-by-piece e behind end k (sign close_of g.ops behind) refl whole h1
-      expr-by-piece e b end k (Some walk.Check) f front h = object-piece e b front (sign-piece g walk-is b walk.Check f) end k h
       expr-by-piece e b end k (Some (walk.Enter j z)) f front h =
           let (p, pe, h1) = bind-some (path_in e) _ (k, end) h in
           let (w, we, h2) = bind-some (window g inner types line z (suc b)) _ (k, end) h1 in
           let (z_is, block) = window-piece z (suc b) w.1 w.0 we in
           let enters : Piece g.ops b (i.EnterField j (length types) ∷ []) (suc b) =
           piece-is g.ops (ap (λ (n : ℕ). i.EnterField j n ∷ []) z_is) (sign-piece g walk-is b (walk.Enter j z) f) in
-          let begin = piece-then g.ops (path-piece (suc start) b e p pe front) enters in
+          let begin = piece-then g.ops (piece-is g.ops (ap (ops_of (suc start)) (path-is e p pe)) front) enters in
           let front_ops : List Op = path_ops p.0 p.1 ++ i.EnterField j (length types) ∷ [] in
           let there : suc b ≡ start + 1 + length front_ops = omega (arith, begin.place) in
-          let end_there : List Op = i.Mark line ∷ i.Leave (length types) ∷ [] in
-          let inside : Piece g.ops (suc b) (block_ops (types_inside types w.0.0) (start + 1 + length front_ops) w.0.1 ++ end_there) w.1 =
-          subst (λ (n : ℕ). Piece g.ops (suc b) (block_ops (types_inside types w.0.0) n w.0.1 ++ end_there) w.1) there block in
-          stands-as (enter_field p.0 p.1 j w.0.0 w.0.1) k w.1 end h2
+          let inside : Piece g.ops (suc b) (window_ops (start + 1 + length front_ops) w.0) w.1 =
+          subst (λ (n : ℕ). Piece g.ops (suc b) (window_ops n w.0) w.1) there block in
+          stands-as (enter_field p.0 p.1 j w.0.0 w.0.1 w.0.2) k w.1 end h2
           (piece-then g.ops mark-piece (piece-then g.ops begin inside))
+      expr-by-piece e b end k (Some (walk.New c)) f front h = array-piece e b end k (walk.New c) f front (new c (Some e), suc b) refl h
+      expr-by-piece e b end k (Some (walk.NewTmp c)) f front h = array-piece e b end k (walk.NewTmp c) f front (new_tmp c (Some e), suc b) refl h
+      expr-by-piece e b end k (Some (walk.NewIso c m)) f front h =
+          array-piece e b end k (walk.NewIso c m) f front (new_iso c (Some e) m, suc b) refl h
 
-      kind-by-piece : (rs : List Raised) (b end : ℕ) (k : Kind) → Piece g.ops (suc start) (all_ops (suc start) rs) b
-          → kind_by g inner types line start rs b ≡ Some (k, end) → Stands k end
+      kind-by-piece : (fs : List Front) (b end : ℕ) (k : Kind) → Piece g.ops (suc start) (fronts_ops (suc start) fs) b
+          → kind_by g inner types line start fs b ≡ Some (k, end) → Stands k end
       kind-by-piece [] b end k front h = open-by-piece b end k (sign open_of g.ops b) refl front h
-      kind-by-piece (e ∷ []) b end k front h = expr-by-piece e b end k (sign walk_of g.ops b) refl front h
-      kind-by-piece (e ∷ f ∷ es) b end k front h = absurd cc
+      kind-by-piece (expression e ∷ []) b end k front h =
+          expr-by-piece e b end k (sign walk_of g.ops b) refl (alone-front (suc start) b e front) h
+      kind-by-piece (expression e ∷ f ∷ fs) b end k front h = absurd cc
+      kind-by-piece (object s ks ∷ fs) b end k front h = object-by-piece s ks fs b end k (sign behind_of g.ops b) refl front h
+      kind-by-piece (place s ks e ∷ fs) b end k front h = element-piece s ks e fs b end k front h
 
       kind-piece : (end : ℕ) (k : Kind) → kind_told g inner types line start ≡ Some (k, end) → Stands k end
       kind-piece end k h =
-          let (rs, re, h1) = bind-some (exprs g.ops (suc start)) _ (k, end) h in
-          kind-by-piece rs.0 rs.1 end k (exprs-piece g (suc start) rs.1 rs.0 re) h1
+          let (fs, fe, h1) = bind-some (fronts_at g.ops (suc start)) _ (k, end) h in
+          kind-by-piece fs.0 fs.1 end k (fronts-piece g (suc start) fs.1 fs.0 fe) h1
 
   -- Blocks
 

@@ -11,6 +11,9 @@ mod TreeStack
 mod Settle
 mod Put
 mod Path
+mod Fronts
+mod Places
+mod Refused
 mod Walking
 mod Examples
 mod BlockExamples

@@ -7,8 +7,8 @@ use Rattle.rg_code.specs.declared.op.Op.{Op}
 use Rattle.rg_code.specs.declared.op.Op.TheVariants as i
 use Rattle.rg_code.specs.Lowering.{Scope, type_in, type_behind, fields_code, path_code, gap, operator_code, expr_code, exprs_code}
 use Rattle.rg_verify.specs.Naming.{variable_in, field_name}
-use Rattle.rg_verify.specs.Raised.{Raised, number, boolean, nil, path, is_nil, neg, not, binary, path_ops, ops_of, named, AreFound, IsPathFound}
-use Rattle.rg_verify.specs.Raised.{IsFound, all_ops}
+use Rattle.rg_verify.specs.Raised.{Raised, number, boolean, nil, path, is_nil, size, element, neg, not, binary, path_ops, holder_ops, ops_of, named}
+use Rattle.rg_verify.specs.Raised.{AreFound, IsPathFound, IsFound, all_ops}
 use Rattle.rg_verify.specs.Raises.{HaveTheirCode}
 
 pub fields-named : (classes : List Class) (t : Ty) (ks : List ℕ) → AreFound classes t ks → fields_code classes t (map field_name ks) ≡ map i.Field ks
@@ -23,6 +23,12 @@ module _ (classes : List Class) (scope : Scope) (m : Truth) where
   pub code-named : (r : Raised) (at : ℕ) → IsFound classes scope m r → expr_code classes scope at (named m r) ≡ ops_of at r
   code-named (path s ks) at h = path-named s ks h
   code-named (is_nil s ks) at h = ap (λ (os : List Op). os ++ i.IsNil ∷ []) (path-named s ks h)
+  code-named (size s ks) at h = ap (λ (os : List Op). os ++ i.Size ∷ []) (path-named s ks h)
+  code-named (element s ks a) at (f, g) =
+      let array = holder_ops s ks in
+      let index : ℕ → List Op = λ n. expr_code classes scope n (named m a) in
+      ap (λ (os : List Op). (os ++ i.Check ∷ []) ++ (index (at + length (os ++ i.Check ∷ [])) ++ i.Bound ∷ i.Element ∷ [])) (path-named s ks f)
+      ∙ ap (λ (os : List Op). array ++ (os ++ i.Bound ∷ i.Element ∷ [])) (code-named a (at + length array) g)
   code-named (neg a) at h = ap (λ (os : List Op). os ++ i.Neg ∷ []) (code-named a at h)
   code-named (not a) at h = ap (λ (os : List Op). os ++ i.Not ∷ []) (code-named a at h)
   code-named (binary o a b) at (f, g) =

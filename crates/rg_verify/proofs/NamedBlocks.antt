@@ -1,5 +1,6 @@
 -- Blocks with names have the code of those with numbers.
-use Rattle.std.proofs.Common.{◌≡◌, ℕ, ◌+◌, Bool as Truth, List, [], ◌∷◌, ◌++◌, map, length, Option, Some, refl, sym, ap, ◌∙◌}
+use Rattle.std.proofs.Common.{◌≡◌, ℕ, ◌+◌, Bool as Truth, List, [], ◌∷◌, ◌++◌, map, length, Option, Some, None, refl, sym, ap, ◌∙◌, option_map}
+use Rattle.std.proofs.Common.{append_assoc, arith}
 use Rattle.std.proofs.lemmas.List.{length-append, length-map, map-append}
 use Rattle.rg_base.specs.declared.words.Cap.TheVariants as cap
 use Rattle.rg_base.specs.declared.ty.Ty.{Ty}
@@ -10,14 +11,17 @@ use Rattle.rg_code.specs.declared.op.Op.{Op}
 use Rattle.rg_code.specs.declared.op.Op.TheVariants as i
 use Rattle.rg_code.specs.Lowering.{slot_of, holder_code, held_number, Scope, Slot, with_slot, scope_behind, scope_inside, assign_code, swap_code}
 use Rattle.rg_code.specs.Lowering.{enter_code, kind_code, else_code, block_code}
-use Rattle.rg_code.specs.Lowering.{pace_code, right_code, dropped_code, call_result, else_gap as gap_behind}
+use Rattle.rg_code.specs.Lowering.{pace_code, right_code, dropped_code, call_result, else_gap as gap_behind, path_code, expr_code, scope_at_end}
+use Rattle.rg_code.specs.Lowering.{assign_element_code, leave_op as leaves}
 use Rattle.rg_verify.specs.Naming.{variable_name, field_name, variable_in, written}
-use Rattle.rg_verify.specs.Raised.{path_named, path_ops, IsPathFound}
-use Rattle.rg_verify.specs.Statements.{Right, Kind, declare, assign, write, call, swap, branch, while, enter, enter_field, print, collect, return}
-use Rattle.rg_verify.specs.Statements.{Else, no_else, otherwise, Block, empty, next, types_behind, types_inside, whole_ops, holder_ops, call_ops}
-use Rattle.rg_verify.specs.Statements.{right_ops, pace_ops, else_gap, kind_ops, else_ops, block_ops}
+use Rattle.rg_verify.specs.Raised.{Raised, path_named, named, path_ops, holder_ops, place_ops, ops_of, IsPathFound, IsFound}
+use Rattle.rg_verify.specs.Statements.{Right, Kind, declare, assign, write, write_element, call, swap, branch, while, enter, enter_field, print}
+use Rattle.rg_verify.specs.Statements.{collect, return}
+use Rattle.rg_verify.specs.Statements.{Else, no_else, otherwise, Block, empty, next, types_behind, types_inside, whole_ops, call_ops}
+use Rattle.rg_verify.specs.Statements.{right_ops, pace_ops, leave_op, else_gap, kind_ops, else_ops, block_ops}
 use Rattle.rg_verify.specs.Found.{call_named, right_named, slots_behind, kind_named, else_named, block_named, IsEntryFound, IsKindFound, IsElseFound}
-use Rattle.rg_verify.specs.Found.{IsSlotFound, IsRightFound, IsBlockFound, types_of, BlocksHaveTheirCode}
+use Rattle.rg_verify.specs.Found.{IsSlotFound, IsRightFound, IsGivingFound, IsBlockFound, types_of, BlocksHaveTheirCode}
+use Rattle.rg_verify.proofs.Named.{path-named, code-named}
 use Rattle.rg_verify.proofs.NamedParts.{ending, holder-named, held-named, whole-named, assign-named, call-named, right-named, pace-named}
 
 -- one variable more
@@ -37,14 +41,14 @@ module _ (classes : List Class) (m : Truth) where
   behind-types (declare t r) scope (e, h) =
       more-types scope (Some (variable_name (length scope))) (type_of classes (written t)) ∙ ap (λ (u : Ty). types_of scope ++ u ∷ []) e
   behind-types (write s ks k r) scope h = refl
-  behind-types (enter_field s ks k c b) scope h = refl
+  behind-types (enter_field s ks k c b w) scope h = refl
   behind-types _ scope h = refl
 
   behind-slots : (k : Kind) (scope : Scope)
       → length (scope_behind classes scope (kind_named m (length scope) k)) ≡ slots_behind (length scope) k
   behind-slots (declare t r) scope = more-slots scope (Some (variable_name (length scope))) (type_of classes (written t))
   behind-slots (write s ks k r) scope = refl
-  behind-slots (enter_field s ks k c b) scope = refl
+  behind-slots (enter_field s ks k c b w) scope = refl
   behind-slots _ scope = refl
 
   -- those in front of the block of an `enter`
@@ -60,6 +64,34 @@ module _ (classes : List Class) (m : Truth) where
   gap-named : (n : ℕ) (other : Else) → gap_behind (else_named m n other) ≡ else_gap other
   gap-named n no_else = refl
   gap-named n (otherwise b) = refl
+
+  -- how a window is left
+  leave-named : (scope : Scope) (n : ℕ) (w : Option ℕ) → IsGivingFound scope w → leaves scope n (option_map variable_name w) ≡ leave_op n w
+  leave-named scope n None h = refl
+  leave-named scope n (Some w) h = ap (λ (s : ℕ). i.LeaveGiving s n) h
+
+  -- an element is written
+  element-written : (scope : Scope) (s : ℕ) (ks : List ℕ) (e : Raised) (r : Right) (at : ℕ) → IsPathFound classes scope m s ks
+      → IsFound classes scope m e → IsRightFound classes scope m r
+      → assign_element_code classes scope at (path_named m s ks) (named m e) (right_named m r)
+      ≡ place_ops at s ks e ++ (right_ops (types_of scope) (at + length (place_ops at s ks e)) r ++ i.PutElement ∷ pace_ops r)
+  element-written scope s ks e r at f g h =
+      let right : ℕ → List Op = λ n. right_code classes scope n (right_named m r) in
+      let index : ℕ → List Op = λ n. expr_code classes scope n (named m e) in
+      let pace = pace_code (right_named m r) in
+      let array = holder_ops s ks in
+      let bound = ops_of (at + length array) e ++ i.Bound ∷ [] in
+      let whole : List Op → List Op → List Op → List Op =
+      λ q x p. q ++ (x ++ (right (at + length q + length x) ++ i.PutElement ∷ p)) in
+      let there : at + length array + length bound ≡ at + length (array ++ bound) = omega (arith, length-append array bound) in
+      ap (λ (os : List Op). whole (os ++ i.Check ∷ []) (index (at + length (os ++ i.Check ∷ [])) ++ i.Bound ∷ []) pace)
+      (path-named classes scope m s ks f)
+      ∙ ap (λ (os : List Op). whole array (os ++ i.Bound ∷ []) pace) (code-named classes scope m e (at + length array) g)
+      ∙ ap (λ (os : List Op). whole array bound os) (pace-named classes scope m r)
+      ∙ ap (λ (os : List Op). array ++ (bound ++ (os ++ i.PutElement ∷ pace_ops r)))
+      (right-named classes scope m r (at + length array + length bound) h)
+      ∙ ap (λ (n : ℕ). array ++ (bound ++ (right_ops (types_of scope) n r ++ i.PutElement ∷ pace_ops r))) there
+      ∙ sym (append_assoc array bound (right_ops (types_of scope) (at + length (array ++ bound)) r ++ i.PutElement ∷ pace_ops r))
 
   -- What has a last field: `q.f = r`, `swap y, q.f`, `enter q.f as z`
 
@@ -109,6 +141,8 @@ module _ (classes : List Class) (m : Truth) where
     kind-named (assign s r) scope at line (h, g) =
         rw (right-named classes scope m r (at + 1) g, pace-named classes scope m r, assign-named classes scope m s h.0) refl
     kind-named (write s ks k r) scope at line h = ap (λ (os : List Op). i.Mark line ∷ os) (write-named scope s ks k h.0 (at + 1) r h.1)
+    kind-named (write_element s ks e r) scope at line (f, g, h) =
+        ap (λ (os : List Op). i.Mark line ∷ os) (element-written scope s ks e r (at + 1) f g h)
     kind-named (call c) scope at line h =
         ap (λ (os : List Op). i.Mark line ∷ os ++ dropped_code (call_result classes scope (call_named m c))) (call-named classes scope m c (at + 1) h)
         ∙ ap (λ (t : Option Ty). i.Mark line ∷ call_ops (types_of scope) (at + 1) c ++ dropped_code t) h.result
@@ -125,27 +159,32 @@ module _ (classes : List Class) (m : Truth) where
         let types = types_of scope in
         let inside = at + 1 + length (whole_ops types (at + 1) e) + 1 in
         rw (whole-named classes scope m e (at + 1) f) (rw (block-named b scope inside g, types-long scope) refl)
-    kind-named (enter s c b) scope at line (f, g) =
+    kind-named (enter s c b w) scope at line (f, g, h) =
         let p = path_named m s [] in
         let inner = scope_inside classes scope p (variable_name (length scope)) in
         rw (
           ← inside-slots scope s [],
+          leave-named (scope_at_end classes inner (block_named m (length inner) b)) (length scope) w h,
           block-named b inner (at + 1 + 1) g,
           inside-types scope s [] c f,
           f.path.0,
           types-long scope,
         ) refl
-    kind-named (enter_field s ks k c b) scope at line (f, g) =
+    kind-named (enter_field s ks k c b w) scope at line (f, g, h) =
         let inner = scope_inside classes scope (path_named m s (ks ++ k ∷ [])) (variable_name (length scope)) in
         let entered = enter_code classes scope (variable_in m s) (map field_name (ks ++ k ∷ [])) in
-        let end : ℕ → List Op = λ z. i.Mark line ∷ i.Leave z ∷ [] in
+        let giving = option_map variable_name w in
         let n = length scope in
+        let end : ℕ → List Op = λ z. i.Mark line ∷ leave_op z w ∷ [] in
+        let ends : ℕ → List Op = λ z. i.Mark line ∷ leaves (scope_at_end classes inner (block_named m z b)) n giving ∷ [] in
         let whole : List Op → ℕ → List Op =
-        λ front n. i.Mark line ∷ (front ++ (block_code classes inner (at + 1 + length front) (block_named m n b) ++ end (length scope))) in
+        λ front z. i.Mark line ∷ (front ++ (block_code classes inner (at + 1 + length front) (block_named m z b) ++ ends z)) in
         let front = path_ops s ks ++ i.EnterField k (length (types_of scope)) ∷ [] in
         let inside = at + 1 + length front in
         ap (λ (n : ℕ). whole entered n) (sym (inside-slots scope s (ks ++ k ∷ [])))
         ∙ ap (λ (os : List Op). whole os (length inner)) (enter-named scope s ks k f.path)
+        ∙ ap (λ (o : Op). i.Mark line ∷ (front ++ (block_code classes inner inside (block_named m (length inner) b) ++ i.Mark line ∷ o ∷ [])))
+        (leave-named (scope_at_end classes inner (block_named m (length inner) b)) n w h)
         ∙ ap (λ (os : List Op). i.Mark line ∷ (front ++ (os ++ end n))) (block-named b inner inside g)
         ∙ ap (λ (ts : List Ty). i.Mark line ∷ (front ++ (block_ops ts inside b ++ end n))) (inside-types scope s (ks ++ k ∷ []) c f)
         ∙ ap (λ (z : ℕ). i.Mark line ∷ (front ++ (block_ops (types_inside (types_of scope) c) inside b ++ end z))) (sym (types-long scope))

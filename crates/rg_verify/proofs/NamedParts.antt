@@ -1,6 +1,6 @@
 -- What stands in statements, with names, has the code that it has with numbers: paths up to a last field, whole expressions, calls, right sides.
 use Rattle.std.proofs.Common.{◌≡◌, ℕ, suc, ◌+◌, if◌then◌else◌, Bool as Truth, false, true, List, [], ◌∷◌, ◌++◌, map, length}
-use Rattle.std.proofs.Common.{refl, sym, ap, ◌∙◌}
+use Rattle.std.proofs.Common.{Option, Some, None, refl, sym, ap, ◌∙◌, option_map}
 use Rattle.std.specs.List.{AllByRecursion}
 use Rattle.rg_base.specs.declared.ty.Ty.{Ty}
 use Rattle.rg_tree.specs.Tree.{Name, Variable, Class}
@@ -11,13 +11,13 @@ use Rattle.rg_code.specs.declared.op.Op.{Op}
 use Rattle.rg_code.specs.declared.op.Op.TheVariants as i
 use Rattle.rg_code.specs.Lowering.{Scope, slot_of, type_in, field_number, type_behind, type_along, path_code, holder_code, held_number}
 use Rattle.rg_code.specs.Lowering.{number_called, target_class, exprs_code, used_slots, used_by_all, clears, whole_code, call_code}
-use Rattle.rg_code.specs.Lowering.{right_code, pace_code, assign_op as assigned}
+use Rattle.rg_code.specs.Lowering.{new_code, right_code, pace_code, assign_op as assigned}
 use Rattle.rg_verify.specs.Naming.{variable_in, field_name, method_name}
-use Rattle.rg_verify.specs.Raised.{Raised, number, boolean, nil, path, is_nil, neg, not, binary, path_ops, ops_of, all_ops, named, AreFound}
-use Rattle.rg_verify.specs.Raised.{IsPathFound, IsFound}
+use Rattle.rg_verify.specs.Raised.{Raised, number, boolean, nil, path, is_nil, size, element, neg, not, binary, path_ops, holder_ops, ops_of, all_ops}
+use Rattle.rg_verify.specs.Raised.{named, AreFound, IsPathFound, IsFound}
 use Rattle.rg_verify.specs.Statements.{Call, Right, value, new, new_tmp, new_iso, freeze, merge, read, more, result_of, type_at, used, all_used}
-use Rattle.rg_verify.specs.Statements.{whole_ops, holder_ops, call_ops, right_ops, pace_ops, assign_op}
-use Rattle.rg_verify.specs.Found.{types_of, call_named, right_named, IsCallFound, IsRightFound}
+use Rattle.rg_verify.specs.Statements.{whole_ops, call_ops, new_ops, right_ops, pace_ops, assign_op}
+use Rattle.rg_verify.specs.Found.{types_of, call_named, right_named, IsCallFound, IsCountFound, IsRightFound}
 use Rattle.rg_verify.proofs.Named.{path-named, code-named, all-named}
 
 -- the type in the slot of a variable
@@ -85,6 +85,7 @@ module _ (classes : List Class) (scope : Scope) (m : Truth) where
       let is : type_in scope x ≡ type_at (types_of scope) s = sym (slot-type scope x) ∙ ap (λ (n : ℕ). type_at (types_of scope) n) e in
       ap (λ (n : ℕ). if is_iso (type_in scope x) then n ∷ [] else []) e ∙ ap (λ (t : Ty). if is_iso t then s ∷ [] else []) is
   used-named (path s (k ∷ ks)) h = refl
+  used-named (element s ks a) (f, g) = used-named a g
   used-named (neg a) h = used-named a h
   used-named (not a) h = used-named a h
   used-named (binary o a b) (f, g) =
@@ -128,12 +129,23 @@ module _ (classes : List Class) (scope : Scope) (m : Truth) where
       ∙ ap (λ (ss : List ℕ). receiver ++ (all_ops (at + length receiver) c.args ++ i.Room ∷ (clears ss ++ i.Call c.callee.number ∷ [])))
       (all_used-named c.args h.args)
 
+  -- a new object or array
+  new-named : (n : Option Raised) (object array : Op) (at : ℕ) → IsCountFound classes scope m n
+      → new_code classes scope at object array (option_map (named m) n) ≡ new_ops at object array n
+  new-named None object array at h = refl
+  new-named (Some e) object array at h = ap (λ (os : List Op). os ++ array ∷ []) (code-named classes scope m e at h)
+
   pub right-named : (r : Right) (at : ℕ) → IsRightFound classes scope m r
       → right_code classes scope at (right_named m r) ≡ right_ops (types_of scope) at r
   right-named (value e) at h = whole-named e at h
-  right-named (new c) at h = ap (λ (n : ℕ). i.New n ∷ []) h
-  right-named (new_tmp c) at h = ap (λ (n : ℕ). i.NewTmp n ∷ []) h
-  right-named (new_iso c manager) at h = ap (λ (n : ℕ). i.NewIso n manager ∷ []) h
+  right-named (new c n) at (h, g) =
+      ap (λ (k : ℕ). new_code classes scope at (i.New k) (i.NewArray k) (option_map (named m) n)) h ∙ new-named n (i.New c) (i.NewArray c) at g
+  right-named (new_tmp c n) at (h, g) =
+      ap (λ (k : ℕ). new_code classes scope at (i.NewTmp k) (i.NewTmpArray k) (option_map (named m) n)) h
+      ∙ new-named n (i.NewTmp c) (i.NewTmpArray c) at g
+  right-named (new_iso c n manager) at (h, g) =
+      ap (λ (k : ℕ). new_code classes scope at (i.NewIso k manager) (i.NewIsoArray k manager) (option_map (named m) n)) h
+      ∙ new-named n (i.NewIso c manager) (i.NewIsoArray c manager) at g
   right-named (freeze s) at h = ap (λ (n : ℕ). i.Freeze n ∷ []) h
   right-named (merge s) at h = ap (λ (n : ℕ). i.Merge n ∷ []) h
   right-named read at h = refl

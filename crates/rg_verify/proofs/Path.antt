@@ -1,9 +1,8 @@
--- Paths that are held, and rows that are made of what was held.
+-- Paths that are held, and what is asked of them.
 use Rattle.std.proofs.Common.{◌≡◌, ℕ, Bool as Truth, false, List, [], ◌∷◌, ◌++◌, map, length, Some, None, Result, Ok, Err, Vec}
 use Rattle.std.proofs.Common.{refl, sym, ap, subst, ◌∙◌}
 use Rattle.std.proofs.lemmas.List.{map-append}
 use Rattle.std.specs.declared.alloc.Global.{Global}
-use Rattle.rg_tree.specs.declared.rows.ExprRow.TheVariants as row
 use Rattle.rg_tree.specs.declared.rows.Path as row_path
 use Rattle.rg_tree.specs.Tree as syntax
 use Rattle.rg_tree.specs.Tree.{Name}
@@ -16,14 +15,16 @@ use Rattle.rg_tree.proofs.Adding.{extends-trans}
 use Rattle.rg_verify.specs.Naming.{field_name}
 use Rattle.rg_verify.specs.declared.held.Held.{Held}
 use Rattle.rg_verify.specs.declared.held.Held.TheVariants as held
-use Rattle.rg_verify.specs.declared.held.Wait.{Wait}
 use Rattle.rg_verify.specs.declared.refusal.Refusal.{Refusal}
 use Rattle.rg_verify.specs.declared.refusal.Refusal.TheVariants as refusal
-use Rattle.rg_verify.specs.Raised.{Raised, named, path, is_nil, path_named}
-use Rattle.rg_verify.specs.Raising.{Item, tree, waits, settle, from_path}
-use Rattle.rg_verify.specs.Inner.Adds.{AreNames, AddsTree}
-use Rattle.rg_verify.specs.Inner.Stacks.{is_path, IsFor, Piled, Makes, MakesRow, TakesPath}
-use Rattle.rg_verify.proofs.Row.{adds-same, adds-behind, names-none, names-push}
+use Rattle.rg_verify.specs.declared.stack.Query.{Query}
+use Rattle.rg_verify.specs.declared.stack.Query.TheVariants as query
+use Rattle.rg_verify.specs.Raised.{Raised, named, path, path_named}
+use Rattle.rg_verify.specs.Raising.{Item, tree, settle, from_path, from_checked}
+use Rattle.rg_verify.specs.Inner.Adds.{AreNames, AddsTree, IsExprRow}
+use Rattle.rg_verify.specs.Inner.Unaries.{tree_on, row_on}
+use Rattle.rg_verify.specs.Inner.Stacks.{is_path, IsFor, Piled, Makes, TakesPath}
+use Rattle.rg_verify.proofs.Row.{names-none, names-push}
 use Rattle.rg_verify.proofs.TreeStack.{piled-later, piled-pop, piled-none}
 use Rattle.rg_verify.proofs.Put.{Settles, makes-behind}
 
@@ -31,7 +32,7 @@ use Rattle.rg_verify.proofs.Put.{Settles, makes-behind}
 
 module _ (t : Tables) (m : Truth) (news : List Held) (items : List Item) where
   pub takes-no-path : (hs : List Held) → length hs ≡ 0 → Piled t m hs items → TakesPath t m news items (Err refusal.NotExpression)
-  takes-no-path hs e p = rw (piled-none t m hs items e p) (λ f end. refl)
+  takes-no-path hs e p = rw (piled-none t m hs items e p) (refl, λ f end. refl)
 
   pub takes-path : (hs : List Held) (s : ℕ) (ns : Vec ℕ Global) → hs ≡ news ++ held.Path s ns ∷ [] → Piled t m hs items
       → TakesPath t m news items (Ok (s, ns))
@@ -42,21 +43,27 @@ module _ (t : Tables) (m : Truth) (news : List Held) (items : List Item) where
       by : (x : Item) (xs : List Item) → items ≡ x ∷ xs → IsFor t m (held.Path s ns) x → Piled t m news xs
           → TakesPath t m news items (Ok (s, ns))
       by (tree r) xs same (ks, f, names) below = (ks, xs, same ∙ ap (λ (a : Raised). tree a ∷ xs) f, names, below)
-      by (waits j a to) xs same is below = absurd is
+      by x xs same is below = absurd is
 
-  not-tree : (n : ℕ) (x : Item) (xs : List Item) → IsFor t m (held.Tree n) x → (f : ℕ → List ℕ → Raised) (end : ℕ)
-      → from_path f end (x ∷ xs) ≡ None
-  not-tree n (waits j a to) xs is f end = refl
-  not-tree n (tree r) xs (means, not_path) f end = of r not_path
+  -- what isn't held as a path is none
+  abbrev NoPath : List Item → Type 0
+  NoPath xs = (from_checked xs ≡ None) × ((f : ℕ → List ℕ → Raised) (end : ℕ) → from_path f end xs ≡ None)
+
+  no-path : (h : Held) (x : Item) (xs : List Item) → ((s : ℕ) (ns : Vec ℕ Global) → h ≡ held.Path s ns → ⊥) → IsFor t m h x → NoPath (x ∷ xs)
+  no-path (held.Path s ns) x xs other is = absurd (other s ns refl)
+  no-path (held.Tree n) (tree r) xs other (means, not_path) = of r not_path
     where
-      of : (r : Raised) → is_path r ≡ false → from_path f end (tree r ∷ xs) ≡ None
+      of : (r : Raised) → is_path r ≡ false → NoPath (tree r ∷ xs)
       of (path s ks) e = absurd cc
-      of r e = refl
+      of r e = (refl, λ f end. refl)
+  no-path h (tree r) xs other is = absurd is
+  no-path h x xs other is = (refl, λ f end. refl)
 
-  not-wait : (w : Wait) (x : Item) (xs : List Item) → IsFor t m (held.Waits w) x → (f : ℕ → List ℕ → Raised) (end : ℕ)
-      → from_path f end (x ∷ xs) ≡ None
-  not-wait w (waits j a to) xs is f end = refl
-  not-wait w (tree r) xs is f end = absurd is
+  pub takes-other : (hs : List Held) (h : Held) → hs ≡ news ++ h ∷ [] → ((s : ℕ) (ns : Vec ℕ Global) → h ≡ held.Path s ns → ⊥) → Piled t m hs items
+      → TakesPath t m news items (Err refusal.NotExpression)
+  takes-other hs h e other p =
+      let (x, xs, same, is, below) = piled-pop t m hs news h items e p in
+      rw same (no-path h x xs other is)
 
 -- a variable is held
 pub for-variable : (t : Tables) (m : Truth) (s : ℕ) (ns : Vec ℕ Global) → ns.items ≡ [] → IsFor t m (held.Path s ns) (tree (path s []))
@@ -97,57 +104,56 @@ PathRow t u m s ns p = (ks : List ℕ) → AreNames t ns (map field_name ks) →
 module _ (t u : Tables) (m : Truth) (s : ℕ) (ns : Vec ℕ Global) (p : row_path.Path) (made : PathRow t u m s ns.items p) where
   pub path-there : (x : Item) → IsFor t m (held.Path s ns) x → IsPathIn u p
   path-there (tree r) (ks, e, names) = (made ks names).means.there u (Keeps-same u)
-  path-there (waits j a to) is = absurd is
+  path-there x is = absurd is
 
-  pub path-row : {v : Tables} {n : ℕ} (x : Item) → IsFor t m (held.Path s ns) x → AddsTree u v n (expr_of u (row.Path p))
-      → MakesRow t v m x (Ok n)
-  path-row {v} {n} (tree r) (ks, e, names) put =
-      let one = made ks names in
-      let is : expr_of u (row.Path p) ≡ named m r = ap syntax.path (one.means.is u (Keeps-same u)) ∙ ap (named m) (sym e) in
-      subst (λ a. AddsTree t v n a) is (adds-behind one.extends put)
-  path-row (waits j a to) is put = absurd is
-
-pub row-row : (t : Tables) (m : Truth) (n : ℕ) (x : Item) → IsFor t m (held.Tree n) x → MakesRow t t m x (Ok n)
-row-row t m n (tree r) (means, not_path) = adds-same means
-row-row t m n (waits j a to) is = absurd is
-
-pub wait-row : (t : Tables) (m : Truth) (w : Wait) (x : Item) → IsFor t m (held.Waits w) x → MakesRow t t m x (Err refusal.NotExpression)
-wait-row t m w (tree r) is = absurd is
-wait-row t m w (waits j a to) is = tt
-
-pub no-memory : (t u : Tables) (m : Truth) (x : Item) → MakesRow t u m x (Err refusal.Memory)
-no-memory t u m (tree r) = tt
-no-memory t u m (waits j a to) = tt
-
--- a test for nil
-module _ (t u v : Tables) (m : Truth) (now : List Held) (items : List Item) (s : ℕ) (ns : Vec ℕ Global) (taken : TakesPath t m now items (Ok (s, ns)))
+-- what is asked of a path
+module _ (q : Query) (t u v : Tables) (m : Truth) (now : List Held) (items : List Item) (s : ℕ) (ns : Vec ℕ Global)
+    (taken : TakesPath t m now items (Ok (s, ns)))
     (p : row_path.Path) {fields : List ℕ} (same_fields : fields ≡ ns.items) (row_made : PathRow t u m s fields p) where
-  made : PathRow t u m s ns.items p
-  made = subst (λ (xs : List ℕ). PathRow t u m s xs p) same_fields row_made
+  row-there : PathRow t u m s ns.items p
+  row-there = subst (λ (xs : List ℕ). PathRow t u m s xs p) same_fields row_made
 
-  pub test-there : IsPathIn u p
-  test-there = let (ks, below, same, names, q) = taken in (made ks names).means.there u (Keeps-same u)
+  path-in : IsPathIn u p
+  path-in = let (ks, below, same, names, rest) = taken in (row-there ks names).means.there u (Keeps-same u)
 
-  test-is : (ks : List ℕ) → AreNames t ns.items (map field_name ks) → expr_of u (row.IsNil p) ≡ named m (is_nil s ks)
-  test-is ks names = ap syntax.is_nil ((made ks names).means.is u (Keeps-same u))
+  pub query-there : IsExprRow u (row_on q p)
+  query-there = by q
+    where
+      by : (q : Query) → IsExprRow u (row_on q p)
+      by query.IsNil = path-in
+      by query.Size = path-in
 
-  module _ {n : ℕ} (put : AddsTree u v n (expr_of u (row.IsNil p))) where
-    pub test-pile : (below : List Item) × Piled v m now below
-    test-pile =
-        let (ks, below, same, names, q) = taken in
-        (below, piled-later m now below (extends-trans (made ks names).extends put.extends) q)
+  query-is : (ks : List ℕ) → AreNames t ns.items (map field_name ks) → expr_of u (row_on q p) ≡ named m (tree_on q s ks)
+  query-is ks names = by q
+    where
+      by : (q : Query) → expr_of u (row_on q p) ≡ named m (tree_on q s ks)
+      by query.IsNil = ap syntax.is_nil ((row-there ks names).means.is u (Keeps-same u))
+      by query.Size = ap syntax.size ((row-there ks names).means.is u (Keeps-same u))
 
-    pub test-tree : (r : Raised) × IsFor v m (held.Tree n) (tree r)
-    test-tree =
-        let (ks, below, same, names, q) = taken in
-        (is_nil s ks, (record { is = λ w k. put.means.is w k ∙ test-is ks names; there = put.means.there }, refl))
+  query-no-path : (ks : List ℕ) → is_path (tree_on q s ks) ≡ false
+  query-no-path ks = by q
+    where
+      by : (q : Query) → is_path (tree_on q s ks) ≡ false
+      by query.IsNil = refl
+      by query.Size = refl
 
-    pub test-put : (w : Tables) (news : List Held) (end : ℕ) (result : Result (Unit {0}) Refusal) → Settles v w m now news end (held.Tree n) result
-        → Makes t w m news result (from_path is_nil end items)
-    test-put w news end result h =
-        let (ks, below, same, names, q) = taken in
-        let g = extends-trans (made ks names).extends put.extends in
-        subst (λ (xs : List Item). Makes t w m news result (from_path is_nil end xs)) (sym same)
-        (makes-behind w m news result (Some (settle end (is_nil s ks) below)) g
-        (h below (is_nil s ks) (piled-later m now below g q)
-        (record { is = λ w k. put.means.is w k ∙ test-is ks names; there = put.means.there }, refl)))
+  module _ {n : ℕ} (put : AddsTree u v n (expr_of u (row_on q p))) where
+    pub query-pile : (below : List Item) × Piled v m now below
+    query-pile =
+        let (ks, below, same, names, rest) = taken in
+        (below, piled-later m now below (extends-trans (row-there ks names).extends put.extends) rest)
+
+    pub query-tree : (r : Raised) × IsFor v m (held.Tree n) (tree r)
+    query-tree =
+        let (ks, below, same, names, rest) = taken in
+        (tree_on q s ks, (record { is = λ w k. put.means.is w k ∙ query-is ks names; there = put.means.there }, query-no-path ks))
+
+    pub query-put : (w : Tables) (news : List Held) (end : ℕ) (result : Result (Unit {0}) Refusal) → Settles v w m now news end (held.Tree n) result
+        → Makes t w m news result (from_path (tree_on q) end items)
+    query-put w news end result h =
+        let (ks, below, same, names, rest) = taken in
+        let g = extends-trans (row-there ks names).extends put.extends in
+        subst (λ (xs : List Item). Makes t w m news result (from_path (tree_on q) end xs)) (sym same)
+        (makes-behind w m news result (Some (settle end (tree_on q s ks) below)) g
+        (h below (tree_on q s ks) (piled-later m now below g rest)
+        (record { is = λ w k. put.means.is w k ∙ query-is ks names; there = put.means.there }, query-no-path ks)))

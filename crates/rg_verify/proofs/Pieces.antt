@@ -1,5 +1,5 @@
 -- Pieces of code, one behind the other, and what is told of an instruction.
-use Rattle.std.proofs.Common.{◌≡◌, ◌==◌, ℕ, suc, Bool as Truth, true, false, List, [], ◌∷◌, ◌++◌, length, drop, slice_get, Option, Some, None}
+use Rattle.std.proofs.Common.{◌≡◌, ◌==◌, ℕ, suc, ◌+◌, Bool as Truth, true, false, List, [], ◌∷◌, ◌++◌, length, drop, slice_get, Option, Some, None}
 use Rattle.std.proofs.Common.{refl, sym, ap, ◌∙◌, subst, append_assoc, arith}
 use Rattle.std.proofs.lemmas.Bool.{eqb-true}
 use Rattle.std.proofs.lemmas.List.{drop-drop, length-append}
@@ -20,11 +20,12 @@ use Rattle.rg_verify.specs.declared.signs.Walk.{Walk}
 use Rattle.rg_verify.specs.declared.signs.Walk.TheVariants as walk
 use Rattle.rg_verify.specs.declared.signs.Behind.{Behind}
 use Rattle.rg_verify.specs.declared.signs.Behind.TheVariants as behind
-use Rattle.rg_verify.specs.Raised.{Raised, path, all_ops}
-use Rattle.rg_verify.specs.Statements.{right_ops}
+use Rattle.rg_verify.specs.declared.signs.Leave.{Leave}
+use Rattle.rg_verify.specs.Raised.{Raised, path, Front, expression, object, place, ops_of, all_ops, fronts_ops}
+use Rattle.rg_verify.specs.Statements.{right_ops, leave_op}
 use Rattle.rg_verify.specs.Signs.{making_of, target_of, close_of, open_of, walk_of, behind_of, mark_of, clear_of, call_of, put_of, jump_of, end_of}
-use Rattle.rg_verify.specs.Signs.{leave_of, left_of, pace_of}
-use Rattle.rg_verify.specs.Blocks.{◌>>=◌, ◌>>◌, test, Given, sign, exprs, path_in, cleared, right_of, Piece}
+use Rattle.rg_verify.specs.Signs.{put_element_of, leave_of, left_of, pace_of}
+use Rattle.rg_verify.specs.Blocks.{◌>>=◌, ◌>>◌, test, Given, sign, fronts_at, values_in, path_in, cleared, right_of, Piece}
 use Rattle.rg_verify.proofs.Raises.{raised-stand}
 
 -- What a block that told something says of its parts
@@ -46,6 +47,10 @@ equal a b e = eqb-true a b e
 
 -- Pieces
 
+drop-front : (xs ys : List Op) → drop (length xs) (xs ++ ys) ≡ ys
+drop-front [] ys = refl
+drop-front (x ∷ xs) ys = drop-front xs ys
+
 module _ (ops : List Op) where
   pub piece-nil : (at : ℕ) → Piece ops at [] at
   piece-nil at = record { parts = refl; place = omega arith }
@@ -59,12 +64,18 @@ module _ (ops : List Op) where
     place = omega (arith, p.place, q.place, length-append x y);
   }
 
+  -- a piece in front of another
+  pub piece-parts : (at end : ℕ) (x y : List Op) → Piece ops at (x ++ y) end
+      → Piece ops at x (at + length x) × Piece ops (at + length x) y end
+  piece-parts at end x y p =
+      let rest : drop (at + length x) ops ≡ y ++ drop end ops =
+      sym (drop-drop (length x) at ops) ∙ ap (drop (length x)) (p.parts ∙ append_assoc x y (drop end ops)) ∙ drop-front x (y ++ drop end ops) in (
+        record { parts = p.parts ∙ append_assoc x y (drop end ops) ∙ ap (λ (os : List Op). x ++ os) (sym rest); place = refl },
+        record { parts = rest; place = omega (arith, p.place, length-append x y) },
+      )
+
   pub piece-is : {at end : ℕ} {x y : List Op} → x ≡ y → Piece ops at x end → Piece ops at y end
   piece-is {at = at} {end = end} e p = subst (λ (os : List Op). Piece ops at os end) e p
-
-drop-front : (xs ys : List Op) → drop (length xs) (xs ++ ys) ≡ ys
-drop-front [] ys = refl
-drop-front (x ∷ xs) ys = drop-front xs ys
 
 -- What an instruction is
 
@@ -94,8 +105,10 @@ open_op opens.Collect = i.Collect
 open_op (opens.Enter s z) = i.Enter s z
 
 abbrev pub walk_op : Walk → Op
-walk_op walk.Check = i.Check
 walk_op (walk.Enter k z) = i.EnterField k z
+walk_op (walk.New c) = i.NewArray c
+walk_op (walk.NewTmp c) = i.NewTmpArray c
+walk_op (walk.NewIso c m) = i.NewIsoArray c m
 
 abbrev pub behind_op : Behind → Op
 behind_op behind.Room = i.Room
@@ -104,6 +117,12 @@ behind_op (behind.Swap s k) = i.Swap s k
 abbrev pub left_op : Truth → Op
 left_op true = i.Drop
 left_op false = i.Pop
+
+abbrev pub left_by : Leave → Op
+left_by w = leave_op w.slot w.given
+
+abbrev pub put_element_op : Unit {0} → Op
+put_element_op u = i.PutElement
 
 abbrev pub pace_op : Unit {0} → Op
 pace_op u = i.Pace
@@ -129,8 +148,10 @@ open-is (i.Enter s z) x e = ap open_op (same_Some _ _ e)
 open-is o x e = absurd cc
 
 pub walk-is : Tells walk_of walk_op
-walk-is i.Check x e = ap walk_op (same_Some _ _ e)
 walk-is (i.EnterField k z) x e = ap walk_op (same_Some _ _ e)
+walk-is (i.NewArray c) x e = ap walk_op (same_Some _ _ e)
+walk-is (i.NewTmpArray c) x e = ap walk_op (same_Some _ _ e)
+walk-is (i.NewIsoArray c m) x e = ap walk_op (same_Some _ _ e)
 walk-is o x e = absurd cc
 
 pub behind-is : Tells behind_of behind_op
@@ -154,6 +175,10 @@ pub put-is : Tells put_of i.Put
 put-is (i.Put k) x e = ap i.Put (same_Some _ _ e)
 put-is o x e = absurd cc
 
+pub put-element-is : Tells put_element_of put_element_op
+put-element-is i.PutElement x e = refl
+put-element-is o x e = absurd cc
+
 pub jump-is : Tells jump_of i.Jump
 jump-is (i.Jump t) x e = ap i.Jump (same_Some _ _ e)
 jump-is o x e = absurd cc
@@ -162,8 +187,9 @@ pub end-is : Tells end_of i.End
 end-is (i.End s) x e = ap i.End (same_Some _ _ e)
 end-is o x e = absurd cc
 
-pub leave-is : Tells leave_of i.Leave
-leave-is (i.Leave s) x e = ap i.Leave (same_Some _ _ e)
+pub leave-is : Tells leave_of left_by
+leave-is (i.Leave s) x e = ap left_by (same_Some _ _ e)
+leave-is (i.LeaveGiving w s) x e = ap left_by (same_Some _ _ e)
 leave-is o x e = absurd cc
 
 pub left-is : Tells left_of left_op
@@ -179,6 +205,16 @@ pub path-is : (e : Raised) (p : ℕ × List ℕ) → path_in e ≡ Some p → e 
 path-is (path s ks) p e = let same : (s, ks) ≡ p = same_Some _ _ e in ap (λ (q : ℕ × List ℕ). path q.0 q.1) same
 path-is r p e = absurd cc
 
+-- expressions alone have the code of expressions
+pub values-ops : (fs : List Front) (es : List Raised) (at : ℕ) → values_in fs ≡ Some es → fronts_ops at fs ≡ all_ops at es
+values-ops [] es at e = ap (all_ops at) (same_Some _ _ e)
+values-ops (expression r ∷ fs) es at e =
+    let (rs, f, h) = bind-some (values_in fs) (λ rs. Some (r ∷ rs)) es e in
+    let first = ops_of at r in
+    ap (λ (os : List Op). first ++ os) (values-ops fs rs (at + length first) f) ∙ ap (all_ops at) (same_Some (r ∷ rs) es h)
+values-ops (object s ks ∷ fs) es at e = absurd cc
+values-ops (place s ks r ∷ fs) es at e = absurd cc
+
 module _ (g : Given) where
   -- the instruction at an address
   pub sign-piece : {A : Type 0} {of : Op → Option A} {op : A → Op} → Tells of op → (at : ℕ) (x : A) → sign of g.ops at ≡ Some x
@@ -193,10 +229,10 @@ module _ (g : Given) where
       let (o, there, is) = bind-some (slice_get g.ops at) making_of m e in
       piece-is g.ops (making-is types n o m is) (piece-one g.ops at o there)
 
-  pub exprs-piece : (at end : ℕ) (rs : List Raised) → exprs g.ops at ≡ Some (rs, end) → Piece g.ops at (all_ops at rs) end
-  exprs-piece at end rs e =
-      let s = raised-stand (drop at g.ops) at rs end e in
-      let body = all_ops at rs in
+  pub fronts-piece : (at end : ℕ) (fs : List Front) → fronts_at g.ops at ≡ Some (fs, end) → Piece g.ops at (fronts_ops at fs) end
+  fronts-piece at end fs e =
+      let s = raised-stand (drop at g.ops) at fs end e in
+      let body = fronts_ops at fs in
       let rest : drop end g.ops ≡ s.rest =
       ap (λ (n : ℕ). drop n g.ops) s.place ∙ sym (drop-drop (length body) at g.ops)
       ∙ ap (λ (os : List Op). drop (length body) os) s.parts ∙ drop-front body s.rest in

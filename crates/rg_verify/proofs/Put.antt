@@ -60,37 +60,33 @@ puts-tree t u v m hs news end n x result put h items r p e not_path =
 
 module _ (t u : Tables) (m : Truth) (now : List Held) where
   pub took-there : (items : List Item) (n : ℕ) → TakesRow t u m now items (Ok n) → n < length u.exprs
-  took-there [] n h = absurd h
-  took-there (waits j a to ∷ below) n h = absurd h
   took-there (tree r ∷ below) n (made, p) = made.means.there u (Keeps-same u)
+  took-there items n h = absurd h
 
   pub took-tree : (items : List Item) (n : ℕ) → TakesRow t u m now items (Ok n) → (r : Raised) × (expr_at u n ≡ named m r)
-  took-tree [] n h = absurd h
-  took-tree (waits j a to ∷ below) n h = absurd h
   took-tree (tree r ∷ below) n (made, p) = (r, made.means.is u (Keeps-same u))
+  took-tree items n h = absurd h
 
   -- another tree comes over it
   pub put-over : (v : Tables) (news : List Held) (n : ℕ) (x : ExprRow) (f : Raised → Raised) (end : ℕ) (result : Result (Unit {0}) Refusal)
       (items : List Item) → TakesRow t u m now items (Ok n) → ((r : Raised) → expr_at u n ≡ named m r → expr_of u x ≡ named m (f r))
       → ((r : Raised) → is_path (f r) ≡ false) → Puts u v m now news end x result → Makes t v m news result (from_tree f end items)
-  put-over v news n x f end result [] h e not_path puts = absurd h
-  put-over v news n x f end result (waits j a to ∷ below) h e not_path puts = absurd h
   put-over v news n x f end result (tree r ∷ below) (made, p) e not_path puts =
       makes-behind v m news result (Some (settle end (f r) below)) made.extends
       (puts below (f r) p (e r (made.means.is u (Keeps-same u))) (not_path r))
+  put-over v news n x f end result items h e not_path puts = absurd h
 
   -- it waits for the right operand
   pub put-waiting : (news : List Held) (n : ℕ) (j : Junction) (to : ℕ) (result : Result (Unit {0}) Refusal) (items : List Item)
       → TakesRow t u m now items (Ok n) → Pushes now news (held.Waits (record { junction = j; left = n; to = to })) result
       → Makes t u m news result (from_left j to items)
-  put-waiting news n j to result [] h pushed = absurd h
-  put-waiting news n j to result (waits i a at ∷ below) h pushed = absurd h
   put-waiting news n j to (Err refusal.Memory) (tree r ∷ below) h pushed = tt
   put-waiting news n j to (Err refusal.NotExpression) (tree r ∷ below) h pushed = absurd pushed
   put-waiting news n j to (Ok done) (tree r ∷ below) (made, p) pushed = record {
     extends = made.extends;
     piled = piled-push u m now news (held.Waits (record { junction = j; left = n; to = to })) below (waits j r to) pushed (refl, refl, made.means) p;
   }
+  put-waiting news n j to result items h pushed = absurd h
 
 -- it has a row, of whichever stack it was taken
 pub taken-there : {t u : Tables} (m : Truth) {before now : List Held} {n : ℕ} → IsPiled t m before
@@ -129,13 +125,11 @@ module _ (t u v : Tables) (m : Truth) (now next : List Held) where
     pub piled : Piled v m next below
 
   pub both : (items : List Item) (right left : ℕ) → TakesRow t u m now items (Ok right) → Second (Ok left) → Both items right left
-  both [] right left h k = absurd h
-  both (waits j a to ∷ below) right left h k = absurd h
-  both (tree b ∷ []) right left (made, p) k = absurd (k [] p)
-  both (tree b ∷ waits j a to ∷ below) right left (made, p) k = absurd (k (waits j a to ∷ below) p)
   both (tree b ∷ tree a ∷ below) right left (made, p) k =
       let (more, q) = k (tree a ∷ below) p in
       record { b = b; a = a; below = below; items_are = refl; made = made; more = more; piled = q }
+  both (tree b ∷ below) right left (made, p) k = absurd (k below p)
+  both items right left h k = absurd h
 
   module _ (o : BinOp) {items : List Item} {right left : ℕ} (k : Both items right left) where
     pub both-there : IsExprRow v (row.Binary o left right)

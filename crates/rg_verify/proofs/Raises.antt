@@ -9,17 +9,23 @@ use Rattle.rg_code.specs.declared.op.Op.TheVariants as i
 use Rattle.rg_code.specs.Lowering.{gap, operator_code}
 use Rattle.rg_verify.specs.declared.part.Part.{Part}
 use Rattle.rg_verify.specs.declared.part.Part.TheVariants as part
-use Rattle.rg_verify.specs.Raised.{Raised, number, boolean, nil, path, is_nil, neg, not, binary, ops_of, all_ops}
+use Rattle.rg_verify.specs.Raised.{Raised, number, boolean, nil, path, is_nil, size, element, neg, not, binary, Front, path_ops, holder_ops, ops_of}
+use Rattle.rg_verify.specs.Raised.{fronts_ops}
 use Rattle.rg_verify.specs.Parts.{part_of, Ends}
 use Rattle.rg_verify.specs.Raises.{Stand}
-use Rattle.rg_verify.specs.Raising.{Item, tree, settle, from_path, act, walk, trees, raised}
-use Rattle.rg_verify.proofs.Settling.{jump_of, items_ops, settle-ops, trees-ops}
+use Rattle.rg_verify.specs.Raising.{Item, tree, checked, indexed, settle, from_path, from_checked, act, walk, fronts, raised}
+use Rattle.rg_verify.proofs.Settling.{jump_of, element-ops, item_ops, items_ops, settle-ops, all-fronts-ops}
 use Rattle.rg_verify.proofs.Parts.{IsOf, Stands, is-of}
 
 path-taken : (f : ℕ → List ℕ → Raised) (end : ℕ) (items new : List Item) → from_path f end items ≡ Some new
     → (s : ℕ) × (ks : List ℕ) × (below : List Item) × (items ≡ tree (path s ks) ∷ below) × (new ≡ settle end (f s ks) below)
 path-taken f end (tree (path s ks) ∷ below) new e = (s, ks, below, refl, sym (same_Some _ _ e))
 path-taken f end items new e = absurd cc
+
+checked-taken : (items new : List Item) → from_checked items ≡ Some new
+    → (s : ℕ) × (ks : List ℕ) × (below : List Item) × (items ≡ tree (path s ks) ∷ below) × (new ≡ checked s ks ∷ below)
+checked-taken (tree (path s ks) ∷ below) new e = (s, ks, below, refl, sym (same_Some _ _ e))
+checked-taken items new e = absurd cc
 
 module _ (at here : ℕ) (o : Op) where
   -- a tree of one instruction comes
@@ -31,13 +37,13 @@ module _ (at here : ℕ) (o : Op) where
       let end : suc here ≡ at + length front + length (ops_of (at + length front) r) = omega (arith, place, long) in
       ap (items_ops at) (sym (same_Some _ _ e)) ∙ settle-ops at (suc here) r items end ∙ ap (λ (os : List Op). front ++ os) (one (at + length front))
 
-  -- a tree comes in place of another, with one instruction more
-  replaced : (a r : Raised) (below new : List Item) → ((n : ℕ) → ops_of n r ≡ ops_of n a ++ o ∷ [])
-      → here ≡ at + length (items_ops at (tree a ∷ below)) → new ≡ settle (suc here) r below
-      → items_ops at new ≡ items_ops at (tree a ∷ below) ++ o ∷ []
-  replaced a r below new more place e =
+  -- a tree comes in place of an item, with one instruction more
+  replaced : (x : Item) (r : Raised) (below new : List Item) → ((n : ℕ) → ops_of n r ≡ item_ops n x ++ o ∷ [])
+      → here ≡ at + length (items_ops at (x ∷ below)) → new ≡ settle (suc here) r below
+      → items_ops at new ≡ items_ops at (x ∷ below) ++ o ∷ []
+  replaced x r below new more place e =
       let front = items_ops at below in
-      let old = ops_of (at + length front) a in
+      let old = item_ops (at + length front) x in
       let is : ops_of (at + length front) r ≡ old ++ o ∷ [] = more (at + length front) in
       let long : length (ops_of (at + length front) r) ≡ length old + 1 = ap length is ∙ length-append old (o ∷ []) in
       let end : suc here ≡ at + length front + length (ops_of (at + length front) r) =
@@ -78,20 +84,48 @@ module _ (at here : ℕ) (o : Op) where
       λ n. ap (λ (os : List Op). i.Load s ∷ os) (map-append i.Field ks (k ∷ []) ∙ ap (λ (o : Op). map i.Field ks ++ o ∷ []) (sym is)) in
       let there : here ≡ at + length (items_ops at (tree (path s ks) ∷ below)) = place
       ∙ ap (λ (xs : List Item). at + length (items_ops at xs)) items_are in
-      replaced (path s ks) (path s (ks ++ k ∷ [])) below new more there new_is
+      replaced (tree (path s ks)) (path s (ks ++ k ∷ [])) below new more there new_is
       ∙ ap (λ (xs : List Item). items_ops at xs ++ o ∷ []) (sym items_are)
   act-ops part.IsNil items new is place e =
       let (s, ks, below, items_are, new_is) = path-taken is_nil (suc here) items new e in
       let more : (n : ℕ) → ops_of n (is_nil s ks) ≡ ops_of n (path s ks) ++ o ∷ [] = λ n. ap (λ (o : Op). ops_of n (path s ks) ++ o ∷ []) (sym is) in
       let there : here ≡ at + length (items_ops at (tree (path s ks) ∷ below)) = place
       ∙ ap (λ (xs : List Item). at + length (items_ops at xs)) items_are in
-      replaced (path s ks) (is_nil s ks) below new more there new_is
+      replaced (tree (path s ks)) (is_nil s ks) below new more there new_is
       ∙ ap (λ (xs : List Item). items_ops at xs ++ o ∷ []) (sym items_are)
+  act-ops part.Size items new is place e =
+      let (s, ks, below, items_are, new_is) = path-taken size (suc here) items new e in
+      let more : (n : ℕ) → ops_of n (size s ks) ≡ ops_of n (path s ks) ++ o ∷ [] = λ n. ap (λ (o : Op). ops_of n (path s ks) ++ o ∷ []) (sym is) in
+      let there : here ≡ at + length (items_ops at (tree (path s ks) ∷ below)) = place
+      ∙ ap (λ (xs : List Item). at + length (items_ops at xs)) items_are in
+      replaced (tree (path s ks)) (size s ks) below new more there new_is
+      ∙ ap (λ (xs : List Item). items_ops at xs ++ o ∷ []) (sym items_are)
+  act-ops part.Check items new is place e =
+      let (s, ks, below, items_are, new_is) = checked-taken items new e in
+      let front = items_ops at below in
+      ap (items_ops at) new_is
+      ∙ ap (λ (q : Op). front ++ (path_ops s ks ++ q ∷ [])) (sym is)
+      ∙ sym (append_assoc front (path_ops s ks) (o ∷ []))
+      ∙ ap (λ (xs : List Item). items_ops at xs ++ o ∷ []) (sym items_are)
+  act-ops part.Bound (tree a ∷ checked s ks ∷ below) new is place e =
+      let front = items_ops at below in
+      let array = holder_ops s ks in
+      let n = at + length (front ++ array) in
+      let same : at + length front + length array ≡ n = omega (arith, length-append front array) in
+      ap (items_ops at) (sym (same_Some _ _ e))
+      ∙ ap (λ (m : ℕ). front ++ (array ++ (ops_of m a ++ i.Bound ∷ []))) same
+      ∙ ap (λ (q : Op). front ++ (array ++ (ops_of n a ++ q ∷ []))) (sym is)
+      ∙ sym (append_assoc front array (ops_of n a ++ o ∷ []))
+      ∙ sym (append_assoc (front ++ array) (ops_of n a) (o ∷ []))
+  act-ops part.Bound items new is place e = absurd cc
+  act-ops part.Element (indexed s ks a ∷ below) new is place e =
+      replaced (indexed s ks a) (element s ks a) below new (λ n. element-ops n s ks a o is) place (sym (same_Some _ _ e))
+  act-ops part.Element items new is place e = absurd cc
   act-ops part.Neg (tree a ∷ below) new is place e =
-      replaced a (neg a) below new (λ n. ap (λ (o : Op). ops_of n a ++ o ∷ []) (sym is)) place (sym (same_Some _ _ e))
+      replaced (tree a) (neg a) below new (λ n. ap (λ (o : Op). ops_of n a ++ o ∷ []) (sym is)) place (sym (same_Some _ _ e))
   act-ops part.Neg items new is place e = absurd cc
   act-ops part.Not (tree a ∷ below) new is place e =
-      replaced a (not a) below new (λ n. ap (λ (o : Op). ops_of n a ++ o ∷ []) (sym is)) place (sym (same_Some _ _ e))
+      replaced (tree a) (not a) below new (λ n. ap (λ (o : Op). ops_of n a ++ o ∷ []) (sym is)) place (sym (same_Some _ _ e))
   act-ops part.Not items new is place e = absurd cc
   act-ops (part.Operator b) (tree y ∷ tree x ∷ below) new is place e = joined b x y below new is place (sym (same_Some _ _ e))
   act-ops (part.Operator b) items new is place e = absurd cc
@@ -158,23 +192,23 @@ walk-ops (o ∷ os) at here items new end place e =
         }
     of others (Some p) f h = acted others p (act p (suc here) items) f refl h
 
-pub raised-stand : (ops : List Op) (at : ℕ) (rs : List Raised) (end : ℕ) → raised ops at ≡ Some (rs, end) → Stand ops at rs end
+pub raised-stand : (ops : List Op) (at : ℕ) (fs : List Front) (end : ℕ) → raised ops at ≡ Some (fs, end) → Stand ops at fs end
 unfolding raised
-raised-stand ops at rs end e = of (walk ops at []) refl e
+raised-stand ops at fs end e = of (walk ops at []) refl e
   where
-    there : (items : List Item) (here : ℕ) (r : Option (List Raised)) → walk ops at [] ≡ Some (items, here) → trees items [] ≡ r
-        → option_map {U = List Raised × ℕ} (λ (xs : List Raised). (xs, here)) r ≡ Some (rs, end) → Stand ops at rs end
+    there : (items : List Item) (here : ℕ) (r : Option (List Front)) → walk ops at [] ≡ Some (items, here) → fronts items [] ≡ r
+        → option_map {U = List Front × ℕ} (λ (xs : List Front). (xs, here)) r ≡ Some (fs, end) → Stand ops at fs end
     there items here None f g h = absurd cc
     there items here (Some xs) f g h =
-        let x : List Raised × ℕ = (xs, here) in
-        let y : List Raised × ℕ = (rs, end) in
+        let x : List Front × ℕ = (xs, here) in
+        let y : List Front × ℕ = (fs, end) in
         let both : x ≡ y = same_Some x y h in
-        let same : xs ≡ rs = ap (λ (x : List Raised × ℕ). x.0) both in
-        let last : here ≡ end = ap (λ (x : List Raised × ℕ). x.1) both in
+        let same : xs ≡ fs = ap (λ (x : List Front × ℕ). x.0) both in
+        let last : here ≡ end = ap (λ (x : List Front × ℕ). x.1) both in
         let zeroth : at ≡ at + 0 = omega arith in
         let w = walk-ops ops at at [] items here zeroth f in
-        let code : items_ops at items ≡ all_ops at rs =
-        sym (append-nil (items_ops at items)) ∙ trees-ops at items [] xs g ∙ ap (all_ops at) same in
+        let code : items_ops at items ≡ fronts_ops at fs =
+        sym (append-nil (items_ops at items)) ∙ all-fronts-ops at items [] xs g ∙ ap (fronts_ops at) same in
         record {
           rest = w.rest;
           parts = w.parts ∙ ap (λ (os : List Op). os ++ w.rest) code;
@@ -183,8 +217,8 @@ raised-stand ops at rs end e = of (walk ops at []) refl e
         }
 
     of : (w : Option (List Item × ℕ)) → walk ops at [] ≡ w
-        → ◌≡◌ {A = Option (List Raised × ℕ)}
-        (elim w [ None ↦ None | Some s ↦ option_map {U = List Raised × ℕ} (λ (xs : List Raised). (xs, s.1)) (trees s.0 []) ]) (Some (rs, end))
-        → Stand ops at rs end
+        → ◌≡◌ {A = Option (List Front × ℕ)}
+        (elim w [ None ↦ None | Some s ↦ option_map {U = List Front × ℕ} (λ (xs : List Front). (xs, s.1)) (fronts s.0 []) ]) (Some (fs, end))
+        → Stand ops at fs end
     of None f h = absurd cc
-    of (Some (items, here)) f h = there items here (trees items []) f refl h
+    of (Some (items, here)) f h = there items here (fronts items []) f refl h

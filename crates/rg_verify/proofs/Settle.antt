@@ -62,8 +62,6 @@ pub record Taken (t u : Tables) (m : Truth) (end : ℕ) (now : List Held) (top :
 taken-by : (t u : Tables) (m : Truth) (end : ℕ) (now news : List Held) (top : Held) (w : Wait) (wanted items : List Item) (r : Raised)
     → Extends t u → IsFor u m top (tree r) → settle end r items ≡ wanted → TakesWait u m end now news items (Some w)
     → Taken t u m end news top w wanted
-taken-by t u m end now news top w wanted [] r g f same h = absurd h
-taken-by t u m end now news top w wanted (tree x ∷ below) r g f same h = absurd h
 taken-by t u m end now news top w wanted (waits j a to ∷ below) r g f same (junction, here, left, p) =
     let one : settle end r (waits j a to ∷ below) ≡ settle end r (waits j a end ∷ below) =
     ap (λ (n : ℕ). settle end r (waits j a n ∷ below)) here in
@@ -77,6 +75,7 @@ taken-by t u m end now news top w wanted (waits j a to ∷ below) r g f same (ju
       is = f;
       same = ap (λ (i : Junction). settle end (binary (operator_of i) a r) below) junction ∙ sym (settle-taken end r j a below) ∙ sym one ∙ same;
     }
+taken-by t u m end now news top w wanted items r g f same h = absurd h
 
 pub left-taken : {t u : Tables} {m : Truth} {end : ℕ} {now : List Held} {top : Held} {wanted : List Item} (news : List Held) (w : Wait)
     → Left t u m end now top wanted → ((items : List Item) → Piled u m now items → TakesWait u m end now news items (Some w))

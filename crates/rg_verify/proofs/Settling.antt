@@ -8,8 +8,8 @@ use Rattle.rg_code.specs.declared.op.Op.TheVariants as i
 use Rattle.rg_code.specs.Lowering.{gap, operator_code}
 use Rattle.rg_verify.specs.declared.part.Junction.{Junction}
 use Rattle.rg_verify.specs.declared.part.Junction.TheVariants as junctions
-use Rattle.rg_verify.specs.Raised.{Raised, binary, ops_of, all_ops}
-use Rattle.rg_verify.specs.Raising.{operator_of, Item, tree, waits, settle, trees}
+use Rattle.rg_verify.specs.Raised.{Raised, element, binary, Front, expression, object, place, ops_of, holder_ops, place_ops, front_ops, fronts_ops}
+use Rattle.rg_verify.specs.Raising.{operator_of, Item, tree, checked, indexed, waits, settle, front_in, fronts}
 
 -- the instruction of a junction
 abbrev pub jump_of : Junction → (to : ℕ) → Op
@@ -24,10 +24,21 @@ pub junction-gap : (j : Junction) → gap (operator_of j) ≡ 1
 junction-gap junctions.And = refl
 junction-gap junctions.Or = refl
 
+-- the code of an element is that of its place, and one instruction more
+pub element-ops : (n : ℕ) (s : ℕ) (ks : List ℕ) (a : Raised) (o : Op) → o ≡ i.Element → ops_of n (element s ks a) ≡ place_ops n s ks a ++ o ∷ []
+element-ops n s ks a o is =
+    let array = holder_ops s ks in
+    let code = ops_of (n + length array) a in
+    ap (λ (os : List Op). array ++ os) (sym (append_assoc code (i.Bound ∷ []) (i.Element ∷ [])))
+    ∙ sym (append_assoc array (code ++ i.Bound ∷ []) (i.Element ∷ []))
+    ∙ ap (λ (q : Op). (array ++ (code ++ i.Bound ∷ [])) ++ q ∷ []) (sym is)
+
 -- the code of what stands on a stack, the lowest item's from an address on
 
 abbrev pub item_ops : (at : ℕ) → Item → List Op
 item_ops at (tree r) = ops_of at r
+item_ops at (checked s ks) = holder_ops s ks
+item_ops at (indexed s ks e) = place_ops at s ks e
 item_ops at (waits j a to) = ops_of at a ++ jump_of j to ∷ []
 
 abbrev pub items_ops : (at : ℕ) → List Item → List Op
@@ -56,6 +67,8 @@ pub settle-ops : (at end : ℕ) (r : Raised) (items : List Item)
     → items_ops at (settle end r items) ≡ items_ops at items ++ ops_of (at + length (items_ops at items)) r
 settle-ops at end r [] e = refl
 settle-ops at end r (tree a ∷ below) e = refl
+settle-ops at end r (checked s ks ∷ below) e = refl
+settle-ops at end r (indexed s ks a ∷ below) e = refl
 settle-ops at end r (waits j a to ∷ below) e = by (λ long. settle-ops at end (binary (operator_of j) a r) below long) (to == end) refl
   where
     front : List Op
@@ -91,32 +104,46 @@ settle-ops at end r (waits j a to ∷ below) e = by (λ long. settle-ops at end 
         ∙ sym (append_assoc front left (ops_of (here + length left) r))
         ∙ ap (λ (n : ℕ). (front ++ left) ++ ops_of n r) (sym place)
 
--- the trees of a stack in front of others have their code in order
-pub trees-ops : (at : ℕ) (items : List Item) (done rs : List Raised) → trees items done ≡ Some rs
-    → items_ops at items ++ all_ops (at + length (items_ops at items)) done ≡ all_ops at rs
-trees-ops at [] done rs e =
+-- one more front behind the code of a stack
+front-more : (at : ℕ) (front : List Op) (f : Front) (done rs : List Front)
+    → front ++ fronts_ops (at + length front) (f ∷ done) ≡ fronts_ops at rs
+    → (front ++ front_ops (at + length front) f) ++ fronts_ops (at + length (front ++ front_ops (at + length front) f)) done ≡ fronts_ops at rs
+front-more at front f done rs h =
+    let first = front_ops (at + length front) f in
+    let there : at + length (front ++ first) ≡ at + length front + length first = omega (arith, length-append front first) in
+    append_assoc front first (fronts_ops (at + length (front ++ first)) done)
+    ∙ ap (λ (n : ℕ). front ++ (first ++ fronts_ops n done)) there
+    ∙ h
+
+-- the fronts of a stack in front of others have their code in order
+pub all-fronts-ops : (at : ℕ) (items : List Item) (done rs : List Front) → fronts items done ≡ Some rs
+    → items_ops at items ++ fronts_ops (at + length (items_ops at items)) done ≡ fronts_ops at rs
+all-fronts-ops at [] done rs e =
     let zeroth : at + 0 ≡ at = omega arith in
     let same : done ≡ rs = cc in
-    ap (λ (n : ℕ). all_ops n done) zeroth ∙ ap (all_ops at) same
-trees-ops at (waits j a to ∷ below) done rs e = absurd cc
-trees-ops at (tree r ∷ below) done rs e =
-    let front = items_ops at below in
-    let first = ops_of (at + length front) r in
-    let place : at + length (front ++ first) ≡ at + length front + length first = omega (arith, length-append front first) in
-    append_assoc front first (all_ops (at + length (front ++ first)) done)
-    ∙ ap (λ (n : ℕ). front ++ (first ++ all_ops n done)) place
-    ∙ trees-ops at below (r ∷ done) rs e
+    ap (λ (n : ℕ). fronts_ops n done) zeroth ∙ ap (fronts_ops at) same
+all-fronts-ops at (waits j a to ∷ below) done rs e = absurd cc
+all-fronts-ops at (tree r ∷ below) done rs e =
+    front-more at (items_ops at below) (expression r) done rs (all-fronts-ops at below (expression r ∷ done) rs e)
+all-fronts-ops at (checked s ks ∷ below) done rs e =
+    front-more at (items_ops at below) (object s ks) done rs (all-fronts-ops at below (object s ks ∷ done) rs e)
+all-fronts-ops at (indexed s ks a ∷ below) done rs e =
+    front-more at (items_ops at below) (place s ks a) done rs (all-fronts-ops at below (place s ks a ∷ done) rs e)
 
 -- what waits on top of a stack waits for this end, or for one behind it
 abbrev pub Waits : (end : ℕ) → List Item → Type 0
 Waits end [] = Unit {0}
 Waits end (tree a ∷ below) = Unit {0}
+Waits end (checked s ks ∷ below) = Unit {0}
+Waits end (indexed s ks e ∷ below) = Unit {0}
 Waits end (waits j a to ∷ below) = end ≤ to
 
 -- before that, a tree just comes on top
 pub settle-before : (here end : ℕ) (r : Raised) (items : List Item) → here < end → Waits end items → settle here r items ≡ tree r ∷ items
 settle-before here end r [] lt w = refl
 settle-before here end r (tree a ∷ below) lt w = refl
+settle-before here end r (checked s ks ∷ below) lt w = refl
+settle-before here end r (indexed s ks e ∷ below) lt w = refl
 settle-before here end r (waits j a to ∷ below) lt w =
     let other : (to == here) ≡ false = grind (arith, nat_tests, lt, w) in
     rw other refl
@@ -125,11 +152,15 @@ settle-before here end r (waits j a to ∷ below) lt w =
 abbrev pub Rests : List Item → Type 0
 Rests [] = Unit {0}
 Rests (tree a ∷ below) = Unit {0}
+Rests (checked s ks ∷ below) = Unit {0}
+Rests (indexed s ks e ∷ below) = Unit {0}
 Rests (waits j a to ∷ below) = ⊥
 
 pub settle-rests : (end : ℕ) (r : Raised) (items : List Item) → Rests items → settle end r items ≡ tree r ∷ items
 settle-rests end r [] w = refl
 settle-rests end r (tree a ∷ below) w = refl
+settle-rests end r (checked s ks ∷ below) w = refl
+settle-rests end r (indexed s ks e ∷ below) w = refl
 settle-rests end r (waits j a to ∷ below) w = absurd w
 
 -- what waits for this end takes the tree

@@ -14,7 +14,7 @@ use Rattle.rg_verify.specs.declared.held.Wait.{Wait}
 use Rattle.rg_verify.specs.declared.refusal.Refusal.{Refusal}
 use Rattle.rg_verify.specs.declared.refusal.Refusal.TheVariants as refusal
 use Rattle.rg_verify.specs.Raised.{Raised, named}
-use Rattle.rg_verify.specs.Raising.{Item, tree, waits, settle}
+use Rattle.rg_verify.specs.Raising.{Item, tree, checked, indexed, waits, settle}
 use Rattle.rg_verify.specs.Inner.Adds.{IsTree}
 use Rattle.rg_verify.specs.Inner.Stacks.{IsFor, Piled, MakesRow, TakesRow, waiting, TakesWait}
 
@@ -23,10 +23,10 @@ use Rattle.rg_verify.specs.Inner.Stacks.{IsFor, Piled, MakesRow, TakesRow, waiti
 pub for-later : {t u : Tables} (m : Truth) (h : Held) (x : Item) → Extends t u → IsFor t m h x → IsFor u m h x
 for-later m (held.Path s ns) (tree r) g (ks, e, names) = (ks, e, means-later names g)
 for-later m (held.Tree n) (tree r) g (f, not_path) = (means-later f g, not_path)
-for-later m (held.Waits w) (tree r) g f = absurd f
-for-later m (held.Path s ns) (waits j a to) g f = absurd f
-for-later m (held.Tree n) (waits j a to) g f = absurd f
+for-later m (held.Checked p) (checked s ks) g f = means-later f g
+for-later m (held.Indexed p n) (indexed s ks e) g (f, h) = (means-later f g, means-later h g)
 for-later m (held.Waits w) (waits j a to) g (e, f, means) = (e, f, means-later means g)
+for-later m h x g f = absurd f
 
 pub piled-later : {t u : Tables} (m : Truth) (hs : List Held) (items : List Item) → Extends t u → Piled t m hs items → Piled u m hs items
 piled-later m hs [] g p = p
@@ -63,11 +63,11 @@ takes-none t u m hs news items e p = rw (piled-none t m hs items e p) tt
 takes-by : (t u : Tables) (m : Truth) (news : List Held) (x : Item) (xs : List Item) (r : Result ℕ Refusal) → MakesRow t u m x r → Piled t m news xs
     → TakesRow t u m news (x ∷ xs) r
 takes-by t u m news (tree a) xs (Ok n) made p = (made, piled-later m news xs made.extends p)
-takes-by t u m news (waits j a to) xs (Ok n) made p = absurd made
 takes-by t u m news (tree a) xs (Err refusal.NotExpression) made p = absurd made
-takes-by t u m news (waits j a to) xs (Err refusal.NotExpression) made p = tt
 takes-by t u m news (tree a) xs (Err refusal.Memory) made p = tt
-takes-by t u m news (waits j a to) xs (Err refusal.Memory) made p = tt
+takes-by t u m news x xs (Ok n) made p = absurd made
+takes-by t u m news x xs (Err refusal.NotExpression) made p = tt
+takes-by t u m news x xs (Err refusal.Memory) made p = tt
 
 pub takes-row : (t u : Tables) (m : Truth) (hs news : List Held) (h : Held) (items : List Item) (r : Result ℕ Refusal) → hs ≡ news ++ h ∷ []
     → ((x : Item) → IsFor t m h x → MakesRow t u m x r) → Piled t m hs items → TakesRow t u m news items r
@@ -99,8 +99,12 @@ module _ (t : Tables) (m : Truth) (end : ℕ) (hs : List Held) (items : List Ite
   stays-by : (h : Held) (x : Item) (xs : List Item) → IsFor t m h x → ((w : Wait) → waiting h ≡ Some w → w.to ≡ end → ⊥)
       → (r : Raised) → settle end r (x ∷ xs) ≡ tree r ∷ x ∷ xs
   stays-by h (tree a) xs f far r = refl
+  stays-by h (checked s ks) xs f far r = refl
+  stays-by h (indexed s ks e) xs f far r = refl
   stays-by (held.Path s ns) (waits j a to) xs f far r = absurd f
   stays-by (held.Tree n) (waits j a to) xs f far r = absurd f
+  stays-by (held.Checked p) (waits j a to) xs f far r = absurd f
+  stays-by (held.Indexed p n) (waits j a to) xs f far r = absurd f
   stays-by (held.Waits w) (waits j a to) xs (e, g, means) far r =
       let other : (to == end) ≡ false = by (to == end) refl in
       rw other refl
@@ -124,9 +128,8 @@ module _ (t : Tables) (m : Truth) (end : ℕ) (hs : List Held) (items : List Ite
       let same : v ≡ w = cc in
       let to-is : to ≡ end = sym g ∙ ap (λ (z : Wait). z.to) same ∙ here in
       (ap (λ (z : Wait). z.junction) (sym same) ∙ f, to-is, subst (λ (z : Wait). IsTree t z.left (named m a)) same means, p)
-  takes-wait-by news (held.Waits v) w (tree r) xs e here f p = absurd f
-  takes-wait-by news (held.Path s ns) w x xs e here f p = absurd cc
-  takes-wait-by news (held.Tree n) w x xs e here f p = absurd cc
+  takes-wait-by news (held.Waits v) w x xs e here f p = absurd f
+  takes-wait-by news h w x xs e here f p = absurd cc
 
   -- it waits for this end
   pub wait-taken : (news : List Held) (h : Held) (w : Wait) → slice_get hs (length hs - 1) ≡ Some h → waiting h ≡ Some w → w.to ≡ end

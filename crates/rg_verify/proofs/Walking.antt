@@ -5,7 +5,6 @@ use Rattle.std.proofs.lemmas.List.{drop_all, reverse-append, length-append}
 use Rattle.std.proofs.lemmas.List.Elements.{All-cons}
 use Rattle.rg_base.proofs.Callers.Lists.{drop-here}
 use Rattle.rg_tree.specs.Rows.Tables.{Tables}
-use Rattle.rg_tree.specs.Rows.RowsExist.{IsExprNumber}
 use Rattle.rg_tree.specs.Adds.{Extends}
 use Rattle.rg_tree.proofs.Adding.{extends-same, extends-trans, means-later}
 use Rattle.rg_code.specs.declared.op.Op.{Op}
@@ -13,12 +12,14 @@ use Rattle.rg_verify.specs.declared.part.Part.{Part}
 use Rattle.rg_verify.specs.declared.held.Held.{Held}
 use Rattle.rg_verify.specs.declared.refusal.Refusal.{Refusal}
 use Rattle.rg_verify.specs.declared.refusal.Refusal.TheVariants as refusal
-use Rattle.rg_verify.specs.Raised.{Raised, named}
+use Rattle.rg_verify.specs.declared.front.FrontRow.{FrontRow}
+use Rattle.rg_verify.specs.Raised.{Front}
 use Rattle.rg_verify.specs.Parts.{part_of}
 use Rattle.rg_verify.specs.Raises.{RaisesAll}
-use Rattle.rg_verify.specs.Rows.{AreTrees}
-use Rattle.rg_verify.specs.Raising.{Item, tree, waits, act, walk, trees, raised}
-use Rattle.rg_verify.specs.Inner.Stacks.{Piled, Holds, Makes, Walks, TakesRow, MakesRows}
+use Rattle.rg_verify.specs.Rows.{front_named, IsFrontIn, AreFronts}
+use Rattle.rg_verify.specs.Raising.{Item, act, walk, front_in, fronts, raised}
+use Rattle.rg_verify.specs.Inner.Stacks.{IsFor, Piled, Holds, Makes, Walks, MakesFront, MakesFronts}
+use Rattle.rg_verify.proofs.TreeStack.{piled-later, piled-pop}
 use Rattle.rg_verify.proofs.Raises.{raised-stand}
 use Rattle.rg_verify.proofs.Again.{stand-raised}
 
@@ -94,65 +95,73 @@ module _ {t u : Tables} {m : Truth} {ops : List Op} {from at : ℕ} {hs : List H
 
 -- The rows of the trees
 
--- rows of the topmost trees, the topmost first, and the trees that are left
-pub record Taking (t u : Tables) (m : Truth) (hs : List Held) (rows : List ℕ) (wanted : Option (List Raised)) : Type 0 where
+-- rows of the topmost fronts, the topmost first, and what is left of the stack
+pub record Taking (t u : Tables) (m : Truth) (hs : List Held) (rows : List FrontRow) (wanted : Option (List Front)) : Type 0 where
   pub items : List Item
-  pub done : List Raised
+  pub done : List Front
   pub extends : Extends t u
   pub piled : Piled u m hs items
-  pub rows_are : AreTrees u (reverse rows) (map (named m) done)
-  pub same : trees items done ≡ wanted
+  pub rows_are : AreFronts u (reverse rows) (map (front_named m) done)
+  pub same : fronts items done ≡ wanted
 
-taken-by : (t u v : Tables) (m : Truth) (news : List Held) (rows : List ℕ) (n : ℕ) (wanted : Option (List Raised)) (items : List Item)
-    (done : List Raised) → Extends t u → AreTrees u (reverse rows) (map (named m) done) → trees items done ≡ wanted → TakesRow u v m news items (Ok n)
-    → Taking t v m news (rows ++ n ∷ []) wanted
-taken-by t u v m news rows n wanted [] done g are same h = absurd h
-taken-by t u v m news rows n wanted (waits j a to ∷ below) done g are same h = absurd h
-taken-by t u v m news rows n wanted (tree r ∷ below) done g are same (made, p) =
+-- an item as the front that it is
+fronts-by : (x : Item) (below : List Item) (done : List Front) (f : Option Front) → front_in x ≡ f
+    → ◌≡◌ {A = Option (List Front)} (fronts (x ∷ below) done) (elim f [ None ↦ None | Some y ↦ fronts below (y ∷ done) ])
+fronts-by x below done f e = ap (λ (o : Option Front). elim o [ None ↦ None | Some y ↦ fronts below (y ∷ done) ]) e
+
+taken-by : (t u v : Tables) (m : Truth) (news : List Held) (rows : List FrontRow) (r : FrontRow) (wanted : Option (List Front)) (x : Item)
+    (below : List Item) (done : List Front) (f : Option Front) → front_in x ≡ f → Extends t u → Piled u m news below
+    → AreFronts u (reverse rows) (map (front_named m) done) → fronts (x ∷ below) done ≡ wanted → MakesFront u v m f (Ok r)
+    → Taking t v m news (rows ++ r ∷ []) wanted
+taken-by t u v m news rows r wanted x below done None e g p are same made = absurd made
+taken-by t u v m news rows r wanted x below done (Some f) e g p are same made =
     let later = means-later are made.extends in
-    let turned : reverse (rows ++ n ∷ []) ≡ n ∷ reverse rows = reverse-append rows (n ∷ []) in
+    let turned : reverse (rows ++ r ∷ []) ≡ r ∷ reverse rows = reverse-append rows (r ∷ []) in
     record {
       items = below;
-      done = r ∷ done;
+      done = f ∷ done;
       extends = extends-trans g made.extends;
-      piled = p;
+      piled = piled-later m news below made.extends p;
       rows_are = rw turned (record {
-        is = λ w k. let e = made.means.is w k in let f = later.is w k in cc;
-        there = λ w k. All-cons (IsExprNumber w) n (reverse rows) (made.means.there w k) (later.there w k);
+        is = λ w k. let h = made.means.is w k in let l = later.is w k in cc;
+        there = λ w k. All-cons (IsFrontIn w) r (reverse rows) (made.means.there w k) (later.there w k);
       });
-      same = same;
+      same = sym (fronts-by x below done (Some f) e) ∙ same;
     }
 
-pub taking-next : {t u : Tables} (v : Tables) {m : Truth} {hs : List Held} (news : List Held) {rows : List ℕ} (n : ℕ) {wanted : Option (List Raised)}
-    → Taking t u m hs rows wanted → ((items : List Item) → Piled u m hs items → TakesRow u v m news items (Ok n))
-    → Taking t v m news (rows ++ n ∷ []) wanted
-taking-next {t} {u} v {m} {hs} news {rows} n {wanted} k h = taken-by t u v m news rows n wanted k.items k.done k.extends k.rows_are k.same
-    (h k.items k.piled)
+pub taking-next : {t u : Tables} (v : Tables) {m : Truth} {hs : List Held} (news : List Held) (h : Held) {rows : List FrontRow} (r : FrontRow)
+    {wanted : Option (List Front)} → Taking t u m hs rows wanted → hs ≡ news ++ h ∷ []
+    → ((x : Item) → IsFor u m h x → MakesFront u v m (front_in x) (Ok r)) → Taking t v m news (rows ++ r ∷ []) wanted
+taking-next {t} {u} v {m} {hs} news h {rows} r {wanted} k popped made =
+    let (x, below, same, is, p) = piled-pop u m hs news h k.items popped k.piled in
+    taken-by t u v m news rows r wanted x below k.done (front_in x) refl k.extends p k.rows_are
+    (ap (λ (xs : List Item). fronts xs k.done) (sym same) ∙ k.same) (made x is)
 
-refused-by : (t u v : Tables) (m : Truth) (hs news : List Held) (wanted : Option (List Raised)) (items : List Item) (done : List Raised) (e : Refusal)
-    → 0 < length hs → Piled u m hs items → trees items done ≡ wanted → TakesRow u v m news items (Err e) → MakesRows t v m wanted (Err e)
-refused-by t u v m hs news None items done refusal.Memory lt p same h = tt
-refused-by t u v m hs news (Some rs) items done refusal.Memory lt p same h = tt
-refused-by t u v m hs news wanted [] done refusal.NotExpression lt p same h = absurd (omega (arith, lt, ap length p))
-refused-by t u v m hs news wanted (waits j a to ∷ below) done refusal.NotExpression lt p same h = sym same
-refused-by t u v m hs news wanted (tree r ∷ below) done refusal.NotExpression lt p same h = absurd h
+refused-by : (t u v : Tables) (m : Truth) (wanted : Option (List Front)) (x : Item) (below : List Item) (done : List Front) (f : Option Front)
+    (e : Refusal) → front_in x ≡ f → fronts (x ∷ below) done ≡ wanted → MakesFront u v m f (Err e) → MakesFronts t v m wanted (Err e)
+refused-by t u v m None x below done f refusal.Memory is same h = tt
+refused-by t u v m (Some fs) x below done f refusal.Memory is same h = tt
+refused-by t u v m wanted x below done None refusal.NotExpression is same h = sym same ∙ fronts-by x below done None is
+refused-by t u v m wanted x below done (Some f) refusal.NotExpression is same h = absurd h
 
-pub taking-refused : {t u : Tables} (v : Tables) {m : Truth} {hs : List Held} (news : List Held) {rows : List ℕ} {wanted : Option (List Raised)}
-    (e : Refusal) → 0 < length hs
-    → Taking t u m hs rows wanted → ((items : List Item) → Piled u m hs items → TakesRow u v m news items (Err e)) → MakesRows t v m wanted (Err e)
-taking-refused {t} {u} v {m} {hs} news {rows} {wanted} e lt k h = refused-by t u v m hs news wanted k.items k.done e lt k.piled k.same
-    (h k.items k.piled)
+pub taking-refused : {t u : Tables} (v : Tables) {m : Truth} {hs : List Held} (news : List Held) (h : Held) {rows : List FrontRow}
+    {wanted : Option (List Front)} (e : Refusal) → Taking t u m hs rows wanted → hs ≡ news ++ h ∷ []
+    → ((x : Item) → IsFor u m h x → MakesFront u v m (front_in x) (Err e)) → MakesFronts t v m wanted (Err e)
+taking-refused {t} {u} v {m} {hs} news h {rows} {wanted} e k popped made =
+    let (x, below, same, is, p) = piled-pop u m hs news h k.items popped k.piled in
+    refused-by t u v m wanted x below k.done (front_in x) e refl (ap (λ (xs : List Item). fronts xs k.done) (sym same) ∙ k.same) (made x is)
 
-ended-by : (t u : Tables) (m : Truth) (hs : List Held) (rows : List ℕ) (wanted : Option (List Raised)) (turned : Vec ℕ Global) (items : List Item)
-    (done : List Raised) → length hs ≡ 0 → Extends t u → Piled u m hs items → AreTrees u (reverse rows) (map (named m) done)
-    → trees items done ≡ wanted → turned.items ≡ reverse rows → MakesRows t u m wanted (Ok turned)
+ended-by : (t u : Tables) (m : Truth) (hs : List Held) (rows : List FrontRow) (wanted : Option (List Front)) (turned : Vec FrontRow Global)
+    (items : List Item) (done : List Front) → length hs ≡ 0 → Extends t u → Piled u m hs items
+    → AreFronts u (reverse rows) (map (front_named m) done) → fronts items done ≡ wanted → turned.items ≡ reverse rows
+    → MakesFronts t u m wanted (Ok turned)
 ended-by t u m hs rows wanted turned [] done e g p are same f =
-    subst (λ w. MakesRows t u m w (Ok turned)) same (g, subst (λ (ns : List ℕ). AreTrees u ns (map (named m) done)) (sym f) are)
+    subst (λ w. MakesFronts t u m w (Ok turned)) same (g, subst (λ (rs : List FrontRow). AreFronts u rs (map (front_named m) done)) (sym f) are)
 ended-by t u m hs rows wanted turned (x ∷ xs) done e g (below, h, q, is, p) are same f =
     absurd (omega (arith, e, ap length q, length-append below (h ∷ [])))
 
-pub taking-end : {t u : Tables} {m : Truth} {hs : List Held} {rows : List ℕ} {wanted : Option (List Raised)} (turned : Vec ℕ Global) → length hs ≡ 0
-    → Taking t u m hs rows wanted → turned.items ≡ reverse rows → MakesRows t u m wanted (Ok turned)
+pub taking-end : {t u : Tables} {m : Truth} {hs : List Held} {rows : List FrontRow} {wanted : Option (List Front)} (turned : Vec FrontRow Global)
+    → length hs ≡ 0 → Taking t u m hs rows wanted → turned.items ≡ reverse rows → MakesFronts t u m wanted (Ok turned)
 taking-end {t} {u} {m} {hs} {rows} {wanted} turned e k f = ended-by t u m hs rows wanted turned k.items k.done e k.extends k.piled k.rows_are k.same f
 
 -- All together
@@ -161,14 +170,14 @@ raised-none : (ops : List Op) (at : ℕ) → walk ops at [] ≡ None → raised 
 unfolding raised
 raised-none ops at e = rw (raised, e) refl
 
-raised-trees : (ops : List Op) (at end : ℕ) (items : List Item) (r : Option (List Raised)) → walk ops at [] ≡ Some (items, end) → trees items [] ≡ r
-    → raised ops at ≡ option_map {U = List Raised × ℕ} (λ (rs : List Raised). (rs, end)) r
+raised-fronts : (ops : List Op) (at end : ℕ) (items : List Item) (r : Option (List Front)) → walk ops at [] ≡ Some (items, end)
+    → fronts items [] ≡ r → raised ops at ≡ option_map {U = List Front × ℕ} (λ (fs : List Front). (fs, end)) r
 unfolding raised
-raised-trees ops at end items r e f = rw (raised, e, f) refl
+raised-fronts ops at end items r e f = rw (raised, e, f) refl
 
 refuses : (t u : Tables) (m : Truth) (ops : List Op) (at : ℕ) → raised ops at ≡ None → RaisesAll t u m ops at (Err refusal.NotExpression)
-refuses t u m ops at e rs end s =
-    let f : raised ops at ≡ Some (rs, end) = stand-raised ops at rs end s in
+refuses t u m ops at e fs end s =
+    let f : raised ops at ≡ Some (fs, end) = stand-raised ops at fs end s in
     absurd cc
 
 pub walk-refused : (t u : Tables) (m : Truth) (ops : List Op) (at : ℕ) (e : Refusal) → Walks t u m (walk ops at []) (Err e)
@@ -178,21 +187,21 @@ walk-refused t u m ops at refusal.NotExpression h = refuses t u m ops at (raised
 
 module _ (t u v : Tables) (m : Truth) (ops : List Op) (at end : ℕ) (stack : Vec Held Global)
     (h : Walks t u m (walk ops at []) (Ok (stack, end))) where
-  pub rows-refused : (e : Refusal) → ((items : List Item) → Piled u m stack.items items → MakesRows u v m (trees items []) (Err e))
+  pub rows-refused : (e : Refusal) → ((items : List Item) → Piled u m stack.items items → MakesFronts u v m (fronts items []) (Err e))
       → RaisesAll t v m ops at (Err e)
   rows-refused refusal.Memory k = tt
   rows-refused refusal.NotExpression k =
       let (items, e, holds) = h in
-      refuses t v m ops at (raised-trees ops at end items None e (k items holds.piled))
+      refuses t v m ops at (raised-fronts ops at end items None e (k items holds.piled))
 
-  pub rows-raised : (rows : Vec ℕ Global) → ((items : List Item) → Piled u m stack.items items → MakesRows u v m (trees items []) (Ok rows))
+  pub rows-raised : (rows : Vec FrontRow Global) → ((items : List Item) → Piled u m stack.items items → MakesFronts u v m (fronts items []) (Ok rows))
       → RaisesAll t v m ops at (Ok (rows, end))
   rows-raised rows k =
       let (items, e, holds) = h in
-      by items e holds (trees items []) refl (k items holds.piled)
+      by items e holds (fronts items []) refl (k items holds.piled)
     where
-      by : (items : List Item) → walk ops at [] ≡ Some (items, end) → Holds t u m stack.items items → (r : Option (List Raised)) → trees items [] ≡ r
-          → MakesRows u v m r (Ok rows) → RaisesAll t v m ops at (Ok (rows, end))
+      by : (items : List Item) → walk ops at [] ≡ Some (items, end) → Holds t u m stack.items items → (r : Option (List Front)) → fronts items [] ≡ r
+          → MakesFronts u v m r (Ok rows) → RaisesAll t v m ops at (Ok (rows, end))
       by items e holds None f made = absurd made
-      by items e holds (Some rs) f (g, are) =
-          (rs, raised-stand ops at rs end (raised-trees ops at end items (Some rs) e f), extends-trans holds.extends g, are)
+      by items e holds (Some fs) f (g, are) =
+          (fs, raised-stand ops at fs end (raised-fronts ops at end items (Some fs) e f), extends-trans holds.extends g, are)

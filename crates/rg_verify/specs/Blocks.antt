@@ -19,14 +19,16 @@ use Rattle.rg_verify.specs.declared.signs.Walk.{Walk}
 use Rattle.rg_verify.specs.declared.signs.Walk.TheVariants as walk
 use Rattle.rg_verify.specs.declared.signs.Behind.{Behind}
 use Rattle.rg_verify.specs.declared.signs.Behind.TheVariants as behind
-use Rattle.rg_verify.specs.Raised.{Raised, path}
+use Rattle.rg_verify.specs.declared.signs.Leave.{Leave}
+use Rattle.rg_verify.specs.Raised.{Raised, path, Front, expression, object, place}
 use Rattle.rg_verify.specs.Raising.{raised}
 use Rattle.rg_verify.specs.declared.callee.Callee.{Callee}
 use Rattle.rg_verify.specs.Statements.{Call, Right, value, new, new_tmp, new_iso, freeze, merge, read, more, result_of, Kind, declare, assign}
-use Rattle.rg_verify.specs.Statements.{write, call, swap, branch, while, enter, enter_field, print, collect, return, no_else, otherwise, Block, empty}
-use Rattle.rg_verify.specs.Statements.{block_ops, next, type_at, all_used, types_behind, types_inside}
+use Rattle.rg_verify.specs.Statements.{write, write_element, call, swap, branch, while, enter, enter_field, print, collect, return, no_else}
+use Rattle.rg_verify.specs.Statements.{otherwise, Block}
+use Rattle.rg_verify.specs.Statements.{block_ops, empty, next, type_at, all_used, types_behind, types_inside}
 use Rattle.rg_verify.specs.Signs.{making_of, target_of, close_of, open_of, walk_of, behind_of, mark_of, clear_of, call_of, put_of, jump_of, end_of}
-use Rattle.rg_verify.specs.Signs.{leave_of, left_of, pace_of, closing_of}
+use Rattle.rg_verify.specs.Signs.{put_element_of, leave_of, left_of, pace_of, closing_of}
 
 -- goes on with what was told
 abbrev pub ◌>>=◌ : {A B : Type 0} → Option A → (A → Option B) → Option B
@@ -69,9 +71,18 @@ abbrev pub bridge_class : Ty → Option ℕ
 bridge_class (ty.Ref cap.Mut c) = Some c
 bridge_class t = None
 
--- the expressions whose code stands at an address
-abbrev pub exprs : (ops : List Op) → (at : ℕ) → Told (List Raised)
-exprs ops at = raised (drop at ops) at
+-- what code begins with at an address, up to an instruction that no expression has
+abbrev pub fronts_at : (ops : List Op) → (at : ℕ) → Told (List Front)
+fronts_at ops at = raised (drop at ops) at
+
+-- expressions alone
+abbrev pub values_in : List Front → Option (List Raised)
+values_in [] = Some []
+values_in (expression e ∷ fs) = do
+  es ← values_in fs
+  Some (e ∷ es)
+values_in (object s ks ∷ fs) = None
+values_in (place s ks e ∷ fs) = None
 
 -- an expression that is a path
 abbrev pub path_in : Raised → Option (ℕ × List ℕ)
@@ -89,13 +100,12 @@ cleared ops (s ∷ ss) at = do
 -- Right sides
 
 -- a call on an object, behind its arguments and `room`
-abbrev pub called : Given → (types : List Ty) → Raised → List Raised → (at : ℕ) → Told Call
-called g types e args at = do
-  p ← path_in e
+abbrev pub called : Given → (types : List Ty) → (slot : ℕ) → (fields : List ℕ) → List Raised → (at : ℕ) → Told Call
+called g types s ks args at = do
   behind ← cleared g.ops (all_used types args) at
   m ← sign call_of g.ops behind
   callee ← slice_get g.methods m
-  Some (record { slot = p.0; fields = p.1; callee = record callee { number = m }; args = args }, suc behind)
+  Some (record { slot = s; fields = ks; callee = record callee { number = m }; args = args }, suc behind)
 
 -- whether these are the arguments of a call
 abbrev pub is_room : Behind → Truth
@@ -104,41 +114,49 @@ is_room (behind.Swap s k) = false
 
 -- a right side of one instruction
 abbrev pub right_of : Making → Right
-right_of (making.New c) = new c
-right_of (making.NewTmp c) = new_tmp c
-right_of (making.NewIso c m) = new_iso c m
+right_of (making.New c) = new c None
+right_of (making.NewTmp c) = new_tmp c None
+right_of (making.NewIso c m) = new_iso c None m
 right_of (making.Freeze s) = freeze s
 right_of (making.Merge s) = merge s
 right_of making.Read = read
 right_of making.More = more
 
--- a right side that begins with an expression, by what stands behind that
+-- a right side that begins with an expression alone, by what stands behind that: a new array of so many elements, or a value
 abbrev pub right_by : Given → (types : List Ty) → Raised → (at : ℕ) → Option Walk → Told Right
 right_by g types e at None = do
   behind ← cleared g.ops (all_used types (e ∷ [])) at
   Some (value e, behind)
-right_by g types e at (Some walk.Check) = do
-  args ← exprs g.ops (suc at)
-  b ← sign behind_of g.ops args.1
-  test (is_room b)
-  c ← called g types e args.0 (suc args.1)
-  Some (result_of c.0, c.1)
+right_by g types e at (Some (walk.New c)) = Some (new c (Some e), suc at)
+right_by g types e at (Some (walk.NewTmp c)) = Some (new_tmp c (Some e), suc at)
+right_by g types e at (Some (walk.NewIso c m)) = Some (new_iso c (Some e) m, suc at)
 right_by g types e at (Some (walk.Enter k z)) = None
 
--- a right side, behind the expressions with which it begins
-abbrev pub right_behind : Given → (types : List Ty) → List Raised → (at : ℕ) → Told Right
+-- the result of a call on an object, behind the arguments, if these are expressions alone
+abbrev pub result_by : Given → (types : List Ty) → (slot : ℕ) → (fields : List ℕ) → Option (List Raised) → (at : ℕ) → Told Right
+result_by g types s ks None at = None
+result_by g types s ks (Some args) at = do
+  b ← sign behind_of g.ops at
+  test (is_room b)
+  c ← called g types s ks args (suc at)
+  Some (result_of c.0, c.1)
+
+-- a right side, behind what it begins with
+abbrev pub right_behind : Given → (types : List Ty) → List Front → (at : ℕ) → Told Right
 right_behind g types [] at = do
   m ← sign making_of g.ops at
   Some (right_of m, suc at)
-right_behind g types (e ∷ []) at = right_by g types e at (sign walk_of g.ops at)
-right_behind g types (e ∷ f ∷ es) at = None
+right_behind g types (expression e ∷ []) at = right_by g types e at (sign walk_of g.ops at)
+right_behind g types (expression e ∷ f ∷ fs) at = None
+right_behind g types (object s ks ∷ fs) at = result_by g types s ks (values_in fs) at
+right_behind g types (place s ks e ∷ fs) at = None
 
--- whether a pacer is asked last: where the right side is `new c0`
+-- whether a pacer is asked last: where the right side is `new c0` or `new c0 [e]`
 abbrev pub paces : Right → Truth
 paces (value e) = false
-paces (new c) = true
-paces (new_tmp c) = false
-paces (new_iso c m) = false
+paces (new c n) = true
+paces (new_tmp c n) = false
+paces (new_iso c n m) = false
 paces (freeze s) = false
 paces (merge s) = false
 paces read = false
@@ -193,30 +211,38 @@ call_by g types c at None = do
   Some (call c, end)
 
 -- a field is written
-abbrev pub written_to : Given → (types : List Ty) → Raised → List Raised → (at : ℕ) → Told Kind
-written_to g types e rs at = do
-  p ← path_in e
-  r ← right_behind g types rs at
+abbrev pub written_to : Given → (types : List Ty) → (slot : ℕ) → (fields : List ℕ) → List Front → (at : ℕ) → Told Kind
+written_to g types s ks fs at = do
+  r ← right_behind g types fs at
   k ← sign put_of g.ops r.1
   end ← paced g.ops (paces r.0) (suc r.1)
-  Some (write p.0 p.1 k r.0, end)
+  Some (write s ks k r.0, end)
 
--- a statement that begins with an object and then expressions, by what stands behind these
-abbrev pub object_by : Given → (types : List Ty) → Raised → List Raised → (at : ℕ) → Option Behind → Told Kind
-object_by g types e rs at (Some behind.Room) = do
-  c ← called g types e rs (suc at)
+-- an element is written
+abbrev pub element_written : Given → (types : List Ty) → (slot : ℕ) → (fields : List ℕ) → (index : Raised) → List Front → (at : ℕ) → Told Kind
+element_written g types s ks e fs at = do
+  r ← right_behind g types fs at
+  sign put_element_of g.ops r.1
+  end ← paced g.ops (paces r.0) (suc r.1)
+  Some (write_element s ks e r.0, end)
+
+-- behind `room`: a call on an object with these arguments; or a field of it is written, where no expressions alone stand behind it
+abbrev pub room_by : Given → (types : List Ty) → (slot : ℕ) → (fields : List ℕ) → List Front → Option (List Raised) → (at : ℕ) → Told Kind
+room_by g types s ks fs None at = written_to g types s ks fs at
+room_by g types s ks fs (Some args) at = do
+  c ← called g types s ks args (suc at)
   call_by g types c.0 c.1 (sign target_of g.ops c.1)
-object_by g types e [] at (Some (behind.Swap y k)) = do
-  p ← path_in e
-  Some (swap y p.0 p.1 k, suc at)
-object_by g types e (r ∷ rs) at (Some (behind.Swap y k)) = None
-object_by g types e rs at None = written_to g types e rs at
 
--- a statement that begins with an object, behind its test
-abbrev pub object : Given → (types : List Ty) → Raised → (at : ℕ) → Told Kind
-object g types e at = do
-  rs ← exprs g.ops at
-  object_by g types e rs.0 rs.1 (sign behind_of g.ops rs.1)
+-- an exchange, behind nothing but the object
+abbrev pub swap_by : (slot : ℕ) → (fields : List ℕ) → List Front → (own field : ℕ) → (at : ℕ) → Told Kind
+swap_by s ks [] y k at = Some (swap y s ks k, suc at)
+swap_by s ks (f ∷ fs) y k at = None
+
+-- a statement that begins with an object and then with more, by what stands behind that
+abbrev pub object_by : Given → (types : List Ty) → (slot : ℕ) → (fields : List ℕ) → List Front → (at : ℕ) → Option Behind → Told Kind
+object_by g types s ks fs at (Some behind.Room) = room_by g types s ks fs (values_in fs) at
+object_by g types s ks fs at (Some (behind.Swap y k)) = swap_by s ks fs y k at
+object_by g types s ks fs at None = written_to g types s ks fs at
 
 -- the end of a block of a statement of a line
 abbrev pub ended : (Op → Option ℕ) → (ops : List Op) → (line slots : ℕ) → (at : ℕ) → Option ℕ
@@ -260,28 +286,39 @@ close_by g inner types line start e at (Some close.Print) = Some (print e, suc a
 close_by g inner types line start e at (Some close.Return) = Some (return e, suc at)
 close_by g inner types line start e at (Some (close.Test to)) = tested g inner types line start e to (suc at)
 
--- the block of an `enter`, with the class of its bridge
-abbrev pub window : Given → Inner → (types : List Ty) → (line : ℕ) → (bridge : ℕ) → (at : ℕ) → Told (ℕ × Block)
+-- the end of a window of a statement of a line, and the slot that gives its bridge
+abbrev pub window_end : (ops : List Op) → (line slots : ℕ) → (at : ℕ) → Told (Option ℕ)
+window_end ops line n at = do
+  l ← sign mark_of ops at
+  test (l == line)
+  w ← sign leave_of ops (suc at)
+  test (w.slot == n)
+  Some (w.given, suc (suc at))
+
+-- the block of an `enter`, with the class of its bridge, and the slot that gives the bridge behind it
+abbrev pub window : Given → Inner → (types : List Ty) → (line : ℕ) → (bridge : ℕ) → (at : ℕ) → Told (ℕ × Block × Option ℕ)
 window g inner types line z at = do
   test (z == length types)
   t ← slot_type g.ops g.maps at z
   c ← bridge_class t
   b ← inner (types_inside types c) at
-  end ← ended leave_of g.ops line (length types) b.1
-  Some ((c, b.0), end)
+  w ← window_end g.ops line (length types) b.1
+  Some ((c, b.0, w.0), w.1)
 
 -- a statement that begins with an expression, by what stands behind that
 abbrev pub expr_by : Given → Inner → (types : List Ty) → (line start : ℕ) → Raised → (at : ℕ) → Option Walk → Told Kind
 expr_by g inner types line start e at None = do
   behind ← cleared g.ops (all_used types (e ∷ [])) at
   close_by g inner types line start e behind (sign close_of g.ops behind)
-expr_by g inner types line start e at (Some walk.Check) = object g types e (suc at)
 expr_by g inner types line start e at (Some (walk.Enter k z)) = do
   p ← path_in e
   w ← window g inner types line z (suc at)
-  Some (enter_field p.0 p.1 k w.0.0 w.0.1, w.1)
+  Some (enter_field p.0 p.1 k w.0.0 w.0.1 w.0.2, w.1)
+expr_by g inner types line start e at (Some w) = do
+  r ← right_by g types e at (Some w)
+  taken g types r.0 r.1
 
--- a statement without an expression in front, by what it begins with
+-- a statement with nothing in front, by its first instruction
 abbrev pub open_by : Given → Inner → (types : List Ty) → (line : ℕ) → (at : ℕ) → Option Open → Told Kind
 open_by g inner types line at None = do
   r ← right_behind g types [] at
@@ -289,19 +326,21 @@ open_by g inner types line at None = do
 open_by g inner types line at (Some opens.Collect) = Some (collect, suc at)
 open_by g inner types line at (Some (opens.Enter s z)) = do
   w ← window g inner types line z (suc at)
-  Some (enter s w.0.0 w.0.1, w.1)
+  Some (enter s w.0.0 w.0.1 w.0.2, w.1)
 
--- a statement, by the expressions with which it begins
-abbrev pub kind_by : Given → Inner → (types : List Ty) → (line start : ℕ) → List Raised → (at : ℕ) → Told Kind
+-- a statement, by what it begins with
+abbrev pub kind_by : Given → Inner → (types : List Ty) → (line start : ℕ) → List Front → (at : ℕ) → Told Kind
 kind_by g inner types line start [] at = open_by g inner types line at (sign open_of g.ops at)
-kind_by g inner types line start (e ∷ []) at = expr_by g inner types line start e at (sign walk_of g.ops at)
-kind_by g inner types line start (e ∷ f ∷ es) at = None
+kind_by g inner types line start (expression e ∷ []) at = expr_by g inner types line start e at (sign walk_of g.ops at)
+kind_by g inner types line start (expression e ∷ f ∷ fs) at = None
+kind_by g inner types line start (object s ks ∷ fs) at = object_by g types s ks fs at (sign behind_of g.ops at)
+kind_by g inner types line start (place s ks e ∷ fs) at = element_written g types s ks e fs at
 
 -- the statement of a line whose mark stands at an address
 abbrev pub kind_told : Given → Inner → (types : List Ty) → (line : ℕ) → (at : ℕ) → Told Kind
 kind_told g inner types line at = do
-  rs ← exprs g.ops (suc at)
-  kind_by g inner types line at rs.0 rs.1
+  fs ← fronts_at g.ops (suc at)
+  kind_by g inner types line at fs.0 fs.1
 
 -- Blocks
 
@@ -320,12 +359,13 @@ abbrev pub is_last : Kind → Truth
 is_last (declare t r) = false
 is_last (assign s r) = false
 is_last (write s ks k r) = false
+is_last (write_element s ks e r) = false
 is_last (call c) = false
 is_last (swap y s ks k) = false
 is_last (branch e b other) = false
 is_last (while e b) = false
-is_last (enter s c b) = false
-is_last (enter_field s ks k c b) = false
+is_last (enter s c b w) = false
+is_last (enter_field s ks k c b w) = false
 is_last (print e) = false
 is_last collect = false
 is_last (return e) = true

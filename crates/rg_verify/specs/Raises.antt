@@ -1,4 +1,4 @@
--- Expressions that are raised from their code (docs/architecture.md, "Modules").
+-- Expressions, and what code begins with beside them, raised from their code (docs/architecture.md, "Modules").
 use Rattle.std.specs.Prelude.{◌≡◌, ℕ, ◌+◌, Bool as Truth, List, ◌++◌, map, length, Result, Ok, Err, Vec}
 use Rattle.std.specs.List.{AllByRecursion}
 use Rattle.std.specs.declared.alloc.Global.{Global}
@@ -9,27 +9,28 @@ use Rattle.rg_code.specs.Lowering.{Scope, exprs_code}
 use Rattle.rg_code.specs.declared.op.Op.{Op}
 use Rattle.rg_verify.specs.declared.refusal.Refusal.{Refusal}
 use Rattle.rg_verify.specs.declared.refusal.Refusal.TheVariants as refusal
-use Rattle.rg_verify.specs.Raised.{Raised, all_ops, named, IsFound}
+use Rattle.rg_verify.specs.declared.front.FrontRow.{FrontRow}
+use Rattle.rg_verify.specs.Raised.{Raised, Front, all_ops, fronts_ops, named, IsFound}
 use Rattle.rg_verify.specs.Parts.{Ends}
-use Rattle.rg_verify.specs.Rows.{AreTrees}
+use Rattle.rg_verify.specs.Rows.{front_named, AreFronts}
 
--- the code of expressions stands in front, up to an address, and behind it no instruction of an expression
-pub record Stand (ops : List Op) (at : ℕ) (rs : List Raised) (end : ℕ) : Type 0 where
+-- the code of fronts stands there, up to an address, and behind it no instruction of an expression
+pub record Stand (ops : List Op) (at : ℕ) (fs : List Front) (end : ℕ) : Type 0 where
   pub rest : List Op
-  pub parts : ops ≡ all_ops at rs ++ rest
-  pub place : end ≡ at + length (all_ops at rs)
+  pub parts : ops ≡ fronts_ops at fs ++ rest
+  pub place : end ≡ at + length (fronts_ops at fs)
   pub ends : Ends rest
 
--- what raising answers: rows of the expressions whose code stands in front, and the address behind it; or none has that code
-abbrev pub RaisesAll : (old new : Tables) → (in_method : Truth) → List Op → (at : ℕ) → Result (Vec ℕ Global × ℕ) Refusal → Type 0
+-- what raising answers: rows of the fronts whose code stands there, and the address behind it; or none have that code
+abbrev pub RaisesAll : (old new : Tables) → (in_method : Truth) → List Op → (at : ℕ) → Result (Vec FrontRow Global × ℕ) Refusal → Type 0
 RaisesAll old new m ops at (Ok x) =
-    (rs : List Raised) × Stand ops at rs x.1 × Extends old new × AreTrees new x.0.items (map (named m) rs)
-RaisesAll old new m ops at (Err refusal.NotExpression) = (rs : List Raised) (end : ℕ) → Stand ops at rs end → ⊥
+    (fs : List Front) × Stand ops at fs x.1 × Extends old new × AreFronts new x.0.items (map (front_named m) fs)
+RaisesAll old new m ops at (Err refusal.NotExpression) = (fs : List Front) (end : ℕ) → Stand ops at fs end → ⊥
 RaisesAll old new m ops at (Err refusal.Memory) = Unit {0}
 
--- in front of instructions stands the code of at most one list of expressions
+-- instructions begin with the code of at most one list of fronts
 abbrev pub StandOnce : Type 0
-StandOnce = (ops : List Op) (at : ℕ) (rs ss : List Raised) (m n : ℕ) → Stand ops at rs m → Stand ops at ss n → (rs ≡ ss) × (m ≡ n)
+StandOnce = (ops : List Op) (at : ℕ) (fs gs : List Front) (m n : ℕ) → Stand ops at fs m → Stand ops at gs n → (fs ≡ gs) × (m ≡ n)
 
 -- with names that are found, expressions have the code that they have with numbers
 abbrev pub HaveTheirCode : Type 0

@@ -1,11 +1,36 @@
--- Rows that stand for trees, now and wherever the tables grow (docs/architecture.md, "Modules").
-use Rattle.std.specs.Prelude.{ℕ, List, All, map}
-use Rattle.rg_tree.specs.Tree.{Expr}
+-- Rows that stand for what was raised, now and wherever the tables grow (docs/architecture.md, "Modules").
+use Rattle.std.specs.Prelude.{ℕ, Bool as Truth, List, All, map}
+use Rattle.rg_tree.specs.Tree.{Path, Expr}
 use Rattle.rg_tree.specs.Rows.Tables.{Tables}
-use Rattle.rg_tree.specs.Rows.RowTrees.{expr_at}
-use Rattle.rg_tree.specs.Rows.RowsExist.{IsExprNumber}
+use Rattle.rg_tree.specs.Rows.RowTrees.{expr_at, path_of}
+use Rattle.rg_tree.specs.Rows.RowsExist.{IsExprNumber, IsPathIn}
 use Rattle.rg_tree.specs.Adds.{Means}
+use Rattle.rg_verify.specs.declared.front.FrontRow.{FrontRow}
+use Rattle.rg_verify.specs.declared.front.FrontRow.TheVariants as front
+use Rattle.rg_verify.specs.Raised.{Front, expression, object, place, path_named, named}
 
--- expressions by their numbers, in order
-abbrev pub AreTrees : Tables → List ℕ → List Expr → Type 0
-AreTrees t ns es = Means (λ u. map (expr_at u)) (λ u. All (IsExprNumber u)) t ns es
+-- a front with its names
+pub data NamedFront : Type 0 where
+  an_expression : Expr → NamedFront
+  an_object : Path → NamedFront
+  a_place : Path → (index : Expr) → NamedFront
+
+abbrev pub front_named : (in_method : Truth) → Front → NamedFront
+front_named m (expression r) = an_expression (named m r)
+front_named m (object s ks) = an_object (path_named m s ks)
+front_named m (place s ks e) = a_place (path_named m s ks) (named m e)
+
+-- what a row stands for, and that what it names is there
+abbrev pub front_at : Tables → FrontRow → NamedFront
+front_at t (front.Expression n) = an_expression (expr_at t n)
+front_at t (front.Object p) = an_object (path_of t p)
+front_at t (front.Place p n) = a_place (path_of t p) (expr_at t n)
+
+abbrev pub IsFrontIn : Tables → FrontRow → Type 0
+IsFrontIn t (front.Expression n) = IsExprNumber t n
+IsFrontIn t (front.Object p) = IsPathIn t p
+IsFrontIn t (front.Place p n) = IsPathIn t p × IsExprNumber t n
+
+-- fronts by their rows, in order
+abbrev pub AreFronts : Tables → List FrontRow → List NamedFront → Type 0
+AreFronts t rows xs = Means (λ u. map (front_at u)) (λ u. All (IsFrontIn u)) t rows xs

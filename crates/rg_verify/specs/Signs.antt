@@ -14,6 +14,7 @@ use Rattle.rg_verify.specs.declared.signs.Walk.{Walk}
 use Rattle.rg_verify.specs.declared.signs.Walk.TheVariants as walk
 use Rattle.rg_verify.specs.declared.signs.Behind.{Behind}
 use Rattle.rg_verify.specs.declared.signs.Behind.TheVariants as behind
+use Rattle.rg_verify.specs.declared.signs.Leave.{Leave}
 
 -- a right side of one instruction
 abbrev pub making_of : Op → Option Making
@@ -45,13 +46,15 @@ open_of i.Collect = Some opens.Collect
 open_of (i.Enter s z) = Some (opens.Enter s z)
 open_of o = None
 
--- what stands behind a path that isn't a value
+-- what stands behind an expression that isn't a value as a whole
 abbrev pub walk_of : Op → Option Walk
-walk_of i.Check = Some walk.Check
 walk_of (i.EnterField k z) = Some (walk.Enter k z)
+walk_of (i.NewArray c) = Some (walk.New c)
+walk_of (i.NewTmpArray c) = Some (walk.NewTmp c)
+walk_of (i.NewIsoArray c m) = Some (walk.NewIso c m)
 walk_of o = None
 
--- what stands behind an object and further expressions
+-- what stands behind an object that was tested, and further expressions
 abbrev pub behind_of : Op → Option Behind
 behind_of i.Room = Some behind.Room
 behind_of (i.Swap s k) = Some (behind.Swap s k)
@@ -77,18 +80,25 @@ abbrev pub put_of : Op → Option ℕ
 put_of (i.Put k) = Some k
 put_of o = None
 
+-- an element is written
+abbrev pub put_element_of : Op → Option (Unit {0})
+put_element_of i.PutElement = Some tt
+put_element_of o = None
+
 -- where a jump leads
 abbrev pub jump_of : Op → Option ℕ
 jump_of (i.Jump t) = Some t
 jump_of o = None
 
--- the slot from which on a block's end, or a window's, takes slots away
+-- the slot from which on a block's end takes slots away
 abbrev pub end_of : Op → Option ℕ
 end_of (i.End s) = Some s
 end_of o = None
 
-abbrev pub leave_of : Op → Option ℕ
-leave_of (i.Leave s) = Some s
+-- how a window is left
+abbrev pub leave_of : Op → Option Leave
+leave_of (i.Leave s) = Some (record { slot = s; given = None })
+leave_of (i.LeaveGiving w s) = Some (record { slot = s; given = Some w })
 leave_of o = None
 
 -- whether a result that nobody takes is released
@@ -106,5 +116,6 @@ pace_of o = None
 abbrev pub closing_of : Op → Option (Unit {0})
 closing_of (i.End s) = Some tt
 closing_of (i.Leave s) = Some tt
+closing_of (i.LeaveGiving w s) = Some tt
 closing_of i.RetVoid = Some tt
 closing_of o = None

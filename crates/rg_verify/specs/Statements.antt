@@ -1,5 +1,5 @@
 -- Statements with numbers in place of names, and their code (docs/architecture.md, "Modules").
-use Rattle.std.specs.Prelude.{ℕ, ◌+◌, if◌then◌else◌, List, [], ◌∷◌, ◌++◌, length, slice_get, unwrap_or}
+use Rattle.std.specs.Prelude.{ℕ, ◌+◌, if◌then◌else◌, List, [], ◌∷◌, ◌++◌, length, slice_get, unwrap_or, Option, Some, None}
 use Rattle.rg_base.specs.declared.words.Manager.{Manager}
 use Rattle.rg_base.specs.declared.ty.Ty.{Ty}
 use Rattle.rg_base.specs.declared.words.Cap.TheVariants as cap
@@ -9,7 +9,9 @@ use Rattle.rg_code.specs.declared.op.Op.{Op}
 use Rattle.rg_code.specs.declared.op.Op.TheVariants as i
 use Rattle.rg_code.specs.Lowering.{clears, dropped_code}
 use Rattle.rg_verify.specs.declared.callee.Callee.{Callee}
-use Rattle.rg_verify.specs.Raised.{Raised, number, boolean, nil, path, is_nil, neg, not, binary, path_ops, ops_of, all_ops}
+use Rattle.rg_verify.specs.Raised.{Raised, number, boolean, nil, path, is_nil, size, element, neg, not, binary, path_ops, holder_ops, place_ops}
+use Rattle.rg_verify.specs.Raised.{ops_of}
+use Rattle.rg_verify.specs.Raised.{all_ops}
 
 -- `call v0.f1.m2(a, b)`
 pub record Call : Type 0 where
@@ -22,12 +24,12 @@ pub record Call : Type 0 where
 pub data Right : Type 0 where
   -- `e`
   value : Raised → Right
-  -- `new c0`
-  new : (class : ℕ) → Right
-  -- `new tmp c0`
-  new_tmp : (class : ℕ) → Right
-  -- `new iso c0 in trace`
-  new_iso : (class : ℕ) → Manager → Right
+  -- `new c0` and `new c0 [e]`
+  new : (class : ℕ) → (count : Option Raised) → Right
+  -- `new tmp c0` and `new tmp c0 [e]`
+  new_tmp : (class : ℕ) → (count : Option Raised) → Right
+  -- `new iso c0 in trace` and `new iso c0 [e] in trace`
+  new_iso : (class : ℕ) → (count : Option Raised) → Manager → Right
   -- `freeze v0`
   freeze : (slot : ℕ) → Right
   -- `merge v0`
@@ -48,6 +50,8 @@ mutual
     assign : (slot : ℕ) → Right → Kind
     -- `v0.f1.f2 = r;`, whose last field is apart
     write : (slot : ℕ) → (fields : List ℕ) → (field : ℕ) → Right → Kind
+    -- `v0.f1[e] = r;`
+    write_element : (slot : ℕ) → (fields : List ℕ) → (index : Raised) → Right → Kind
     -- `call v0.m2(a, b);`
     call : Call → Kind
     -- `swap v3, v0.f1.f2;`
@@ -56,10 +60,10 @@ mutual
     branch : Raised → Block → Else → Kind
     -- `while e { .. }`
     while : Raised → Block → Kind
-    -- `enter v0 as v3 { .. }`, with the class of the bridge, which comes into the next slot
-    enter : (slot : ℕ) → (class : ℕ) → Block → Kind
-    -- `enter v0.f1.f2 as v3 { .. }`
-    enter_field : (slot : ℕ) → (fields : List ℕ) → (field : ℕ) → (class : ℕ) → Block → Kind
+    -- `enter v0 as v3 { .. }`, with the class of the bridge, which comes into the next slot; and `enter v0 as v3 { .. } giving v4;`
+    enter : (slot : ℕ) → (class : ℕ) → Block → (giving : Option ℕ) → Kind
+    -- `enter v0.f1.f2 as v3 { .. }`, and with `giving`
+    enter_field : (slot : ℕ) → (fields : List ℕ) → (field : ℕ) → (class : ℕ) → Block → (giving : Option ℕ) → Kind
     -- `print e;`
     print : Raised → Kind
     -- `collect;`
@@ -97,6 +101,8 @@ used types (boolean b) = []
 used types nil = []
 used types (path s ks) = used_by_path types s ks
 used types (is_nil s ks) = []
+used types (size s ks) = []
+used types (element s ks e) = used types e
 used types (neg a) = used types a
 used types (not a) = used types a
 used types (binary o a b) = used types a ++ used types b
@@ -111,12 +117,13 @@ abbrev pub types_behind : (types : List Ty) → Kind → List Ty
 types_behind types (declare t r) = types ++ t ∷ []
 types_behind types (assign s r) = types
 types_behind types (write s ks k r) = types
+types_behind types (write_element s ks e r) = types
 types_behind types (call c) = types
 types_behind types (swap y s ks k) = types
 types_behind types (branch e b other) = types
 types_behind types (while e b) = types
-types_behind types (enter s c b) = types
-types_behind types (enter_field s ks k c b) = types
+types_behind types (enter s c b w) = types
+types_behind types (enter_field s ks k c b w) = types
 types_behind types (print e) = types
 types_behind types collect = types
 types_behind types (return e) = types
@@ -131,34 +138,35 @@ types_inside types c = types ++ ty.Ref cap.Mut c ∷ []
 abbrev pub whole_ops : (types : List Ty) → (at : ℕ) → Raised → List Op
 whole_ops types at e = ops_of at e ++ clears (used types e)
 
--- the object whose field is written, exchanged or called on: the walk to it, and its test
-abbrev pub holder_ops : (slot : ℕ) → (fields : List ℕ) → List Op
-holder_ops s ks = path_ops s ks ++ i.Check ∷ []
-
 -- a call: the receiver and its test, the arguments, room for the frame, what the arguments use up, and the call
 abbrev pub call_ops : (types : List Ty) → (at : ℕ) → Call → List Op
 call_ops types at c =
     let receiver = holder_ops c.slot c.fields in
     receiver ++ (all_ops (at + length receiver) c.args ++ i.Room ∷ (clears (all_used types c.args) ++ i.Call c.callee.number ∷ []))
 
+-- a new object; or the number of elements, and then the new array
+abbrev pub new_ops : (at : ℕ) → (object array : Op) → (count : Option Raised) → List Op
+new_ops at object array None = object ∷ []
+new_ops at object array (Some e) = ops_of at e ++ array ∷ []
+
 -- a right side, which leaves its value on the stack
 abbrev pub right_ops : (types : List Ty) → (at : ℕ) → Right → List Op
 right_ops types at (value e) = whole_ops types at e
-right_ops types at (new c) = i.New c ∷ []
-right_ops types at (new_tmp c) = i.NewTmp c ∷ []
-right_ops types at (new_iso c m) = i.NewIso c m ∷ []
+right_ops types at (new c n) = new_ops at (i.New c) (i.NewArray c) n
+right_ops types at (new_tmp c n) = new_ops at (i.NewTmp c) (i.NewTmpArray c) n
+right_ops types at (new_iso c n m) = new_ops at (i.NewIso c m) (i.NewIsoArray c m) n
 right_ops types at (freeze s) = i.Freeze s ∷ []
 right_ops types at (merge s) = i.Merge s ∷ []
 right_ops types at read = i.Read ∷ []
 right_ops types at more = i.More ∷ []
 right_ops types at (result_of c) = call_ops types at c
 
--- what comes last where a right side makes an object by `new c0`
+-- what comes last where a right side makes an object by `new c0` or `new c0 [e]`
 abbrev pub pace_ops : Right → List Op
 pace_ops (value e) = []
-pace_ops (new c) = i.Pace ∷ []
-pace_ops (new_tmp c) = []
-pace_ops (new_iso c m) = []
+pace_ops (new c n) = i.Pace ∷ []
+pace_ops (new_tmp c n) = []
+pace_ops (new_iso c n m) = []
 pace_ops (freeze s) = []
 pace_ops (merge s) = []
 pace_ops read = []
@@ -168,6 +176,11 @@ pace_ops (result_of c) = []
 -- a value goes into a slot that is there: what an `iso` variable owns is released
 abbrev pub assign_op : (types : List Ty) → (slot : ℕ) → Op
 assign_op types s = if is_iso (type_at types s) then i.Own s else i.Store s
+
+-- how a window is left, from a slot on
+abbrev pub leave_op : (slots : ℕ) → (giving : Option ℕ) → Op
+leave_op n None = i.Leave n
+leave_op n (Some w) = i.LeaveGiving w n
 
 -- how far behind the first block of an `if` the code goes on where the test fails: behind the block's end, and behind a jump
 abbrev pub else_gap : Else → ℕ
@@ -182,6 +195,9 @@ abbrev mutual
   kind_ops types at line (write s ks k r) =
       let holder = holder_ops s ks in
       i.Mark line ∷ holder ++ (right_ops types (at + 1 + length holder) r ++ i.Put k ∷ pace_ops r)
+  kind_ops types at line (write_element s ks e r) =
+      let place = place_ops (at + 1) s ks e in
+      i.Mark line ∷ place ++ (right_ops types (at + 1 + length place) r ++ i.PutElement ∷ pace_ops r)
   kind_ops types at line (call c) = i.Mark line ∷ call_ops types (at + 1) c ++ dropped_code c.callee.result
   kind_ops types at line (swap y s ks k) = i.Mark line ∷ path_ops s ks ++ i.Check ∷ i.Swap y k ∷ []
   kind_ops types at line (branch e b other) =
@@ -195,11 +211,13 @@ abbrev mutual
       let inside = at + 1 + length test + 1 in
       let block = block_ops types inside b in
       i.Mark line ∷ (test ++ i.JumpFalse (inside + length block + 3) ∷ (block ++ i.Mark line ∷ i.End (length types) ∷ i.Jump at ∷ []))
-  kind_ops types at line (enter s c b) =
-      i.Mark line ∷ i.Enter s (length types) ∷ (block_ops (types_inside types c) (at + 1 + 1) b ++ i.Mark line ∷ i.Leave (length types) ∷ [])
-  kind_ops types at line (enter_field s ks k c b) =
-      let front = path_ops s ks ++ i.EnterField k (length types) ∷ [] in
-      i.Mark line ∷ (front ++ (block_ops (types_inside types c) (at + 1 + length front) b ++ i.Mark line ∷ i.Leave (length types) ∷ []))
+  kind_ops types at line (enter s c b w) =
+      let n = length types in
+      i.Mark line ∷ i.Enter s n ∷ (block_ops (types_inside types c) (at + 1 + 1) b ++ i.Mark line ∷ leave_op n w ∷ [])
+  kind_ops types at line (enter_field s ks k c b w) =
+      let n = length types in
+      let front = path_ops s ks ++ i.EnterField k n ∷ [] in
+      i.Mark line ∷ (front ++ (block_ops (types_inside types c) (at + 1 + length front) b ++ i.Mark line ∷ leave_op n w ∷ []))
   kind_ops types at line (print e) = i.Mark line ∷ whole_ops types (at + 1) e ++ i.Print ∷ []
   kind_ops types at line collect = i.Mark line ∷ i.Collect ∷ []
   kind_ops types at line (return e) = i.Mark line ∷ whole_ops types (at + 1) e ++ i.Ret ∷ []

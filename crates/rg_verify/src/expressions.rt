@@ -3,16 +3,20 @@
 ghost use Rattle.std.specs.Prelude.{◌≡◌, ◌≤◌, List, [], length, drop, OnErr};
 ghost use Rattle.rg_verify.specs.Raising as raising;
 ghost use Rattle.rg_verify.specs.Raising.{Item};
-ghost use Rattle.rg_verify.specs.Inner.Stacks.{Piled, IsPiled, Makes, Walks, MakesRows};
+ghost use Rattle.rg_verify.specs.Inner.Stacks.{Piled, IsPiled, Makes, Walks, MakesFronts};
 ghost use Rattle.rg_verify.specs.Inner.Unaries.{row_over, tree_over};
 ghost use Rattle.rg_tree.specs.Adds.{Extends};
 ghost use Rattle.rg_verify.specs.Raises.{RaisesAll};
 
 use crate::body::Body;
+use crate::front::FrontRow;
 use crate::held::Held;
 use crate::part::{Part, part_of};
 use crate::refusal::Refusal;
-use crate::stack::{put_field, put_path, put_test, put_tree, put_wait, row_of, take_row};
+use crate::stack::{
+    Query, front_of, put_bound, put_check, put_element, put_field, put_path, put_query, put_tree,
+    put_wait, take_row,
+};
 use rg_code::CodeList;
 use rg_tree::{BinOp, ExprRow, Program};
 use std::alloc::Global;
@@ -94,7 +98,11 @@ fn act(
         Part::Nil => put_tree(body, program, stack, end, ExprRow::Nil),
         Part::Load { slot } => put_path(body, program, stack, end, slot),
         Part::Field { index } => put_field(body, program, stack, end, index),
-        Part::IsNil => put_test(body, program, stack, end),
+        Part::IsNil => put_query(body, program, stack, end, Query::IsNil),
+        Part::Size => put_query(body, program, stack, end, Query::Size),
+        Part::Check => put_check(body, program, stack),
+        Part::Bound => put_bound(body, program, stack),
+        Part::Element => put_element(body, program, stack, end),
         Part::Neg => put_unary(body, program, stack, end, Unary::Neg),
         Part::Not => put_unary(body, program, stack, end, Unary::Not),
         Part::Operator { op } => put_operator(body, program, stack, end, op),
@@ -127,16 +135,20 @@ fn walk(
     Ok((stack, at))
 }
 
-// The trees of the stack, as rows in order.
-fn take_rows(body: Body, program: &mut Program, stack: &mut Vec<Held>) -> Result<Vec<u32>, Refusal>
+// The fronts of the stack, as rows in order.
+fn take_rows(
+    body: Body,
+    program: &mut Program,
+    stack: &mut Vec<Held>,
+) -> Result<Vec<FrontRow>, Refusal>
     requires { IsPiled program.old body.in_method stack.old.items }
     ensures makes { (items : List Item) → Piled program.old body.in_method stack.old.items items →
-        MakesRows program.old program.new body.in_method (raising.trees items []) result }
+        MakesFronts program.old program.new body.in_method (raising.fronts items []) result }
     ensures grows { Extends program.old program.new }
 {
     let mut rows = Vec::new(body.alloc);
     while let Some(held) = stack.pop() {
-        let row = row_of(body, program, held)?;
+        let row = front_of(body, program, held)?;
         let Ok(()) = rows.push(row) else {
             return Err(Refusal::Memory);
         };
@@ -145,17 +157,17 @@ fn take_rows(body: Body, program: &mut Program, stack: &mut Vec<Held>) -> Result
     Ok(rows)
 }
 
-/// The expressions whose code stands at an address, as rows in order, and the address behind them,
-/// where an instruction stands that no expression has. Where it is refused, the program has at most
-/// grown: all that was there stands for the same. The stack of trees is the only memory that it
-/// takes beside the program's, and nothing recurses.
+/// What code begins with at an address, as rows in order, up to an instruction that no expression
+/// has: expressions, objects and places in arrays; and the address of that instruction. Where it is
+/// refused, the program has at most grown: all that was there stands for the same. The stack of
+/// trees is the only memory that it takes beside the program's, and nothing recurses.
 pub fn raise_expressions(
     alloc: Global,
     program: &mut Program,
     in_method: bool,
     code: &CodeList,
     at: usize,
-) -> Result<(Vec<u32>, usize), Refusal>
+) -> Result<(Vec<FrontRow>, usize), Refusal>
     requires { at ≤ length code.now.ops }
     ensures raises { RaisesAll program.old program.new in_method (drop at code.now.ops) at result }
     ensures err { OnErr result (Extends program.old program.new) }

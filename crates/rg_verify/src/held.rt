@@ -2,6 +2,7 @@
 //! (docs/architecture.md, "Modules").
 
 use crate::part::Junction;
+use rg_tree::Path;
 
 /// What stands on the stack.
 #[derive(Drop)]
@@ -10,6 +11,10 @@ pub(crate) enum Held {
     Path { slot: u32, fields: Vec<u32> },
     /// a tree, by its row
     Tree { row: u32 },
+    /// a path that was tested for nil
+    Checked { path: Path },
+    /// a place in an array, whose index was tested: the path to the array, and the index
+    Indexed { path: Path, index: u32 },
     /// the left operand of a junction
     Waits { wait: Wait },
 }

@@ -5,7 +5,7 @@ ghost use Rattle.rg_verify.specs.Blocks.{RaisedBlocksStand};
 ghost use Rattle.rg_verify.specs.Found.{BlocksHaveTheirCode};
 ghost use Rattle.rg_verify.specs.Raises.{StandOnce, HaveTheirCode};
 
-/// In front of instructions stands the code of at most one list of expressions.
+/// Instructions begin with the code of at most one list of expressions, objects and places.
 pub fn expressions_stand_once()
     ensures { StandOnce }
 {}

@@ -1,9 +1,10 @@
 //! The program that a module is of, raised from the module's code (docs/architecture.md,
-//! "Modules"). `raise_expressions` adds to a program the expressions whose code stands at an
-//! address, up to the first instruction that no expression has, or says that none have that code
-//! (`RaisesAll` in `specs/Raises`). The laws: in front of instructions stands the code of at most
-//! one list of expressions (`expressions_stand_once`), and with names that are found raised
-//! expressions have the code that `rg_code/specs/Lowering` gives them (`raised_have_their_code`);
+//! "Modules"). `raise_expressions` adds to a program what its code begins with at an address, up to
+//! the first instruction that no expression has: expressions, objects and places in arrays; or it
+//! says that none have that code (`RaisesAll` in `specs/Raises`). The laws: instructions begin with
+//! the code of at most one list of these (`expressions_stand_once`), and with names that are found
+//! raised expressions have the code that `rg_code/specs/Lowering` gives them
+//! (`raised_have_their_code`);
 //! so have blocks of statements (`blocks_have_their_code` in `specs/Found`, with the code of
 //! `specs/Statements`). How blocks are raised is a definition (`block_told` in `specs/Blocks`);
 //! what it tells has the code that stands there (`raised_blocks_stand`). No call raises blocks yet,
@@ -13,6 +14,7 @@
 mod body;
 mod callee;
 mod expressions;
+mod front;
 mod held;
 mod laws;
 mod part;
@@ -23,9 +25,10 @@ mod stack;
 
 pub use callee::Callee;
 pub use expressions::raise_expressions;
+pub use front::FrontRow;
 pub use laws::{
     blocks_have_their_code, expressions_stand_once, raised_blocks_stand, raised_have_their_code,
 };
 pub use part::{Junction, Part};
 pub use refusal::Refusal;
-pub use signs::{Behind, Close, Making, Open, Target, Walk};
+pub use signs::{Behind, Close, Leave, Making, Open, Target, Walk};

@@ -22,6 +22,14 @@ pub enum Part {
     Field { index: u32 },
     /// whether the path in front is nil
     IsNil,
+    /// the number of elements of the array to which the path in front leads
+    Size,
+    /// the path in front is tested for nil
+    Check,
+    /// the index in front is tested, of an array that was tested
+    Bound,
+    /// the element of the place in front
+    Element,
     /// minus what is in front
     Neg,
     /// not what is in front
@@ -52,6 +60,10 @@ pub(crate) fn part_of(op: Op) -> Option<Part>
         Op::Load { slot } => Some(Part::Load { slot }),
         Op::Field { index } => Some(Part::Field { index }),
         Op::IsNil => Some(Part::IsNil),
+        Op::Size => Some(Part::Size),
+        Op::Check => Some(Part::Check),
+        Op::Bound => Some(Part::Bound),
+        Op::Element => Some(Part::Element),
         Op::Neg => Some(Part::Neg),
         Op::Not => Some(Part::Not),
         Op::Add => Some(Part::Operator { op: BinOp::Add }),
@@ -74,11 +86,14 @@ pub(crate) fn part_of(op: Op) -> Option<Part>
             to,
         }),
         Op::Mark { .. } | Op::Clear { .. } | Op::Store { .. } | Op::Own { .. } => None,
-        Op::Jump { .. } | Op::JumpFalse { .. } | Op::Check | Op::Pace => None,
+        Op::Jump { .. } | Op::JumpFalse { .. } | Op::Pace => None,
         Op::New { .. } | Op::NewTmp { .. } | Op::NewIso { .. } => None,
-        Op::Put { .. } | Op::Swap { .. } | Op::Freeze { .. } | Op::Merge { .. } => None,
+        Op::NewArray { .. } | Op::NewTmpArray { .. } | Op::NewIsoArray { .. } => None,
+        Op::Put { .. } | Op::PutElement | Op::Swap { .. } => None,
+        Op::Freeze { .. } | Op::Merge { .. } => None,
         Op::Read | Op::More | Op::Room | Op::Call { .. } | Op::Ret | Op::RetVoid => None,
-        Op::Enter { .. } | Op::EnterField { .. } | Op::Leave { .. } | Op::End { .. } => None,
+        Op::Enter { .. } | Op::EnterField { .. } | Op::End { .. } => None,
+        Op::Leave { .. } | Op::LeaveGiving { .. } => None,
         Op::Print | Op::Collect | Op::Pop | Op::Drop | Op::Halt => None,
     }
 }

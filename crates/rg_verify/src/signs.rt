@@ -51,20 +51,31 @@ pub enum Open {
     Enter { slot: u32, bridge: u32 },
 }
 
-/// What stands behind a path that isn't a value.
+/// What stands behind an expression that isn't a value as a whole.
 #[derive(Clone, Copy)]
 pub enum Walk {
-    /// it leads to an object that is called, written or exchanged with
-    Check,
     /// `enter v0.f1 as v3`
     Enter { index: u32, bridge: u32 },
+    /// `new c0 [e]`
+    New { class: u32 },
+    /// `new tmp c0 [e]`
+    NewTmp { class: u32 },
+    /// `new iso c0 [e] in trace`
+    NewIso { class: u32, manager: Manager },
 }
 
-/// What stands behind the expressions behind such an object.
+/// What stands behind an object that was tested, and further expressions.
 #[derive(Clone, Copy)]
 pub enum Behind {
     /// they are the arguments of a call
     Room,
     /// `swap v3, v0.f1`
     Swap { slot: u32, index: u32 },
+}
+
+/// How a window is left: from which slot on slots end, and the slot that gives the bridge.
+#[derive(Clone, Copy)]
+pub struct Leave {
+    pub slot: u32,
+    pub given: Option<u32>,
 }

@@ -5,26 +5,49 @@ ghost use Rattle.std.specs.Prelude.{false, Some, IfSome};
 ghost use Rattle.rg_tree.specs.Rows.Tables.{Tables};
 ghost use Rattle.rg_tree.specs.Rows.RowTrees.{expr_of};
 ghost use Rattle.rg_tree.specs.Adds.{Extends};
-ghost use Rattle.rg_verify.specs.Raised.{Raised, named, path, is_nil};
+ghost use Rattle.rg_verify.specs.Raised.{Raised, named, path};
 ghost use Rattle.rg_verify.specs.Raising as raising;
-ghost use Rattle.rg_verify.specs.Raising.{Item, tree, from_path, from_left};
+ghost use Rattle.rg_verify.specs.Raising.{Item, tree, from_path, from_left, from_checked};
+ghost use Rattle.rg_verify.specs.Raising.{from_index, from_place, front_in};
 ghost use Rattle.rg_verify.specs.Inner.Adds.{IsExprRow};
 ghost use Rattle.rg_verify.specs.Inner.Stacks.{IsFor, IsItem, Piled, IsPiled, Makes, MakesRow};
+ghost use Rattle.rg_verify.specs.Inner.Stacks.{MakesFront, TakesChecked, TakesPlace};
 ghost use Rattle.rg_verify.specs.Inner.Stacks.{TakesRow, waiting, TakesWait, Pushes};
 ghost use Rattle.rg_verify.specs.Inner.Stacks.{TakesPath, is_path};
+ghost use Rattle.rg_verify.specs.Inner.Unaries as unaries;
 
 use crate::body::Body;
+use crate::front::FrontRow;
 use crate::held::{Held, Wait};
 use crate::part::{Junction, operator_of};
 use crate::refusal::Refusal;
 use crate::rows::{add_name, path_row, put_expr};
-use rg_tree::{ExprRow, Program};
+use rg_tree::{ExprRow, Path, Program};
 
-/// Makes a row of what was held.
-pub(crate) fn row_of(body: Body, program: &mut Program, held: Held) -> Result<u32, Refusal>
+/// What is asked of a path.
+#[derive(Clone, Copy)]
+pub enum Query {
+    /// whether it is nil
+    IsNil,
+    /// how many elements it has
+    Size,
+}
+
+// The row of what is asked, over a path.
+fn row_on(query: Query, path: Path) -> ExprRow
+    ensures { result ≡ unaries.row_on query path }
+{
+    match query {
+        Query::IsNil => ExprRow::IsNil(path),
+        Query::Size => ExprRow::Size(path),
+    }
+}
+
+/// Makes rows of what was held.
+pub(crate) fn front_of(body: Body, program: &mut Program, held: Held) -> Result<FrontRow, Refusal>
     requires { IsItem program.old body.in_method held }
     ensures makes { (x : Item) → IsFor program.old body.in_method held x →
-        MakesRow program.old program.new body.in_method x result }
+        MakesFront program.old program.new body.in_method (front_in x) result }
     ensures grows { Extends program.old program.new }
 {
     match held {
@@ -35,11 +58,27 @@ pub(crate) fn row_of(body: Body, program: &mut Program, held: Held) -> Result<u3
             let Ok(row) = put_expr(program, ExprRow::Path(path)) else {
                 return Err(Refusal::Memory);
             };
-            Ok(row)
+            Ok(FrontRow::Expression { row })
         }
-        Held::Tree { row } => Ok(row),
+        Held::Tree { row } => Ok(FrontRow::Expression { row }),
+        Held::Checked { path } => Ok(FrontRow::Object { path }),
+        Held::Indexed { path, index } => Ok(FrontRow::Place { path, index }),
         Held::Waits { .. } => Err(Refusal::NotExpression),
     }
+}
+
+// Makes a row of what was held, if it is a tree.
+fn row_of(body: Body, program: &mut Program, held: Held) -> Result<u32, Refusal>
+    requires { IsItem program.old body.in_method held }
+    ensures makes { (x : Item) → IsFor program.old body.in_method held x →
+        MakesRow program.old program.new body.in_method x result }
+    ensures grows { Extends program.old program.new }
+{
+    let front = front_of(body, program, held)?;
+    let FrontRow::Expression { row } = front else {
+        return Err(Refusal::NotExpression);
+    };
+    Ok(row)
 }
 
 /// Takes the topmost tree, as a row.
@@ -68,10 +107,38 @@ fn take_path(stack: &mut Vec<Held>) -> Result<(u32, Vec<u32>), Refusal>
     let Some(held) = stack.pop() else {
         return Err(Refusal::NotExpression);
     };
-    match held {
-        Held::Path { slot, fields } => Ok((slot, fields)),
-        Held::Tree { .. } | Held::Waits { .. } => Err(Refusal::NotExpression),
-    }
+    let Held::Path { slot, fields } = held else {
+        return Err(Refusal::NotExpression);
+    };
+    Ok((slot, fields))
+}
+
+// Takes the topmost item, a path that was tested.
+fn take_checked(stack: &mut Vec<Held>) -> Result<Path, Refusal>
+    ensures { (t : Tables) (m : Truth) (items : List Item) → Piled t m stack.old.items items →
+        TakesChecked t m stack.new.items items result }
+{
+    let Some(held) = stack.pop() else {
+        return Err(Refusal::NotExpression);
+    };
+    let Held::Checked { path } = held else {
+        return Err(Refusal::NotExpression);
+    };
+    Ok(path)
+}
+
+// Takes the topmost item, a place in an array: the path to the array, and the index.
+fn take_place(stack: &mut Vec<Held>) -> Result<(Path, u32), Refusal>
+    ensures { (t : Tables) (m : Truth) (items : List Item) → Piled t m stack.old.items items →
+        TakesPlace t m stack.new.items items result }
+{
+    let Some(held) = stack.pop() else {
+        return Err(Refusal::NotExpression);
+    };
+    let Held::Indexed { path, index } = held else {
+        return Err(Refusal::NotExpression);
+    };
+    Ok((path, index))
 }
 
 // The left operand of a junction that is held.
@@ -80,6 +147,7 @@ fn wait_of(held: &Held) -> Option<Wait>
 {
     match held {
         Held::Path { .. } | Held::Tree { .. } => None,
+        Held::Checked { .. } | Held::Indexed { .. } => None,
         Held::Waits { wait } => Some(*wait),
     }
 }
@@ -214,8 +282,66 @@ pub(crate) fn put_field(
     settle(body, program, stack, end, Held::Path { slot, fields })
 }
 
+/// Something is asked of a path.
+pub(crate) fn put_query(
+    body: Body,
+    program: &mut Program,
+    stack: &mut Vec<Held>,
+    end: usize,
+    query: Query,
+) -> Result<(), Refusal>
+    requires { IsPiled program.old body.in_method stack.old.items }
+    ensures makes { (items : List Item) → Piled program.old body.in_method stack.old.items items →
+        Makes program.old program.new body.in_method stack.new.items result
+        (from_path (unaries.tree_on query) end items) }
+    ensures grows { Extends program.old program.new }
+{
+    let (slot, fields) = take_path(stack)?;
+    let Ok(path) = path_row(body, program, slot, fields.as_slice()) else {
+        return Err(Refusal::Memory);
+    };
+    let Ok(row) = put_expr(program, row_on(query, path)) else {
+        return Err(Refusal::Memory);
+    };
+    settle(body, program, stack, end, Held::Tree { row })
+}
+
 /// A path is tested for nil.
-pub(crate) fn put_test(
+pub(crate) fn put_check(
+    body: Body,
+    program: &mut Program,
+    stack: &mut Vec<Held>,
+) -> Result<(), Refusal>
+    requires { IsPiled program.old body.in_method stack.old.items }
+    ensures makes { (items : List Item) → Piled program.old body.in_method stack.old.items items →
+        Makes program.old program.new body.in_method stack.new.items result (from_checked items) }
+    ensures grows { Extends program.old program.new }
+{
+    let (slot, fields) = take_path(stack)?;
+    let Ok(path) = path_row(body, program, slot, fields.as_slice()) else {
+        return Err(Refusal::Memory);
+    };
+    push(stack, Held::Checked { path })
+}
+
+/// An index of the array that was tested is tested.
+pub(crate) fn put_bound(
+    body: Body,
+    program: &mut Program,
+    stack: &mut Vec<Held>,
+) -> Result<(), Refusal>
+    requires { IsPiled program.old body.in_method stack.old.items }
+    ensures makes { (items : List Item) → Piled program.old body.in_method stack.old.items items →
+        Makes program.old program.new body.in_method stack.new.items result (from_index items) }
+    ensures grows { Extends program.old program.new }
+{
+    let index = take_row(body, program, stack)?;
+    let path = take_checked(stack)?;
+    push(stack, Held::Indexed { path, index })
+}
+
+/// The element of a place comes.
+pub(crate) fn put_element(
     body: Body,
     program: &mut Program,
     stack: &mut Vec<Held>,
@@ -224,17 +350,11 @@ pub(crate) fn put_test(
     requires { IsPiled program.old body.in_method stack.old.items }
     ensures makes { (items : List Item) → Piled program.old body.in_method stack.old.items items →
         Makes program.old program.new body.in_method stack.new.items result
-        (from_path is_nil end items) }
+        (from_place end items) }
     ensures grows { Extends program.old program.new }
 {
-    let (slot, fields) = take_path(stack)?;
-    let Ok(path) = path_row(body, program, slot, fields.as_slice()) else {
-        return Err(Refusal::Memory);
-    };
-    let Ok(row) = put_expr(program, ExprRow::IsNil(path)) else {
-        return Err(Refusal::Memory);
-    };
-    settle(body, program, stack, end, Held::Tree { row })
+    let (path, index) = take_place(stack)?;
+    put_tree(body, program, stack, end, ExprRow::At { path, index })
 }
 
 /// The topmost tree waits for the right operand, which ends at an address.

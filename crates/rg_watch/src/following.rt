@@ -1,6 +1,8 @@
 //! What a run has made of regions and windows, step by step (docs/embedding.md, "Step by step").
 
-use rg_base::{Manager, Memory};
+ghost use Rattle.rg_watch.specs.Leads.{SlotsLead};
+
+use rg_base::{Manager, Memory, Word};
 use rg_code::{CodeList, Op};
 use rg_step::Stepper;
 use std::alloc::Global;
@@ -19,8 +21,8 @@ pub struct Open {
     pub region: u64,
 }
 
-/// The regions that were made by `new iso`, region 1 first, and the windows that are open, from the
-/// bottom.
+/// The regions that were made by `new iso C` or `new iso C [e]`, region 1 first, and the windows
+/// that are open, from the bottom.
 #[derive(Drop)]
 pub struct Followed {
     pub made: Vec<Made>,
@@ -37,11 +39,20 @@ pub fn line_at(code: &CodeList, at: usize) -> u64 {
     0
 }
 
+/// The manager of the region that an instruction makes, if it makes one.
+fn manager_of(op: Op) -> Option<Manager> {
+    match op {
+        Op::NewIso { manager, .. } => Some(manager),
+        Op::NewIsoArray { manager, .. } => Some(manager),
+        _ => None,
+    }
+}
+
 /// The manager of the region that the step at an address makes, if it makes one.
 pub fn manager_made(code: &CodeList, at: usize) -> Option<Manager> {
     for k in at..code.len() {
         let op = code.get(k);
-        if let Op::NewIso { manager, .. } = op {
+        if let Some(manager) = manager_of(op) {
             return Some(manager);
         }
         if let Op::Mark { .. } = op {
@@ -53,12 +64,61 @@ pub fn manager_made(code: &CodeList, at: usize) -> Option<Manager> {
     None
 }
 
+/// The slot whose object becomes the bridge of the region that the step at an address leaves, if it
+/// ends a window with `giving`.
+fn slot_given(code: &CodeList, at: usize) -> Option<u32> {
+    let behind = at.saturating_add(1);
+    if behind < code.len() {
+        if let Op::LeaveGiving { given, .. } = code.get(behind) {
+            return Some(given);
+        }
+    }
+    None
+}
+
+/// The serial of the object to which a slot of the top frame leads, if it leads to one.
+fn serial_in(stepper: &Stepper, slot: u32) -> Option<u64>
+    requires { SlotsLead stepper.now.parts }
+{
+    let heap = stepper.heap()?;
+    let frames = stepper.frames()?;
+    let Word::Slot(k) = frames.word(slot) else {
+        return None;
+    };
+    Some(heap.serial(k))
+}
+
+/// The serial of the object that becomes the bridge of the region that the step at an address
+/// leaves, if it ends a window with `giving`.
+pub fn bridge_given(stepper: &Stepper, code: &CodeList, at: usize) -> Option<u64>
+    requires { SlotsLead stepper.now.parts }
+{
+    let slot = slot_given(code, at)?;
+    serial_in(stepper, slot)
+}
+
 impl Followed {
     /// A program has begun.
     pub fn new(alloc: Global) -> Followed {
         Followed {
             made: Vec::new(alloc),
             open: Vec::new(alloc),
+        }
+    }
+
+    /// The region of the topmost window gets another bridge, if there is one.
+    pub fn give(&mut self, bridge: Option<u64>) {
+        let Some(bridge) = bridge else {
+            return;
+        };
+        let Some(top) = self.open.last() else {
+            return;
+        };
+        let region = top.region;
+        if region > 0 {
+            if let Some(made) = self.made.get_mut((region - 1) as usize) {
+                made.bridge = bridge;
+            }
         }
     }
 

@@ -6,7 +6,7 @@ ghost use Rattle.rg_code.specs.Lowering.{Lowers};
 ghost use Rattle.rg_input.specs.Numbers.{Follows};
 ghost use Rattle.rg_watch.specs.Goes.{goes_on};
 
-use crate::following::{Followed, line_at, manager_made};
+use crate::following::{Followed, bridge_given, line_at, manager_made};
 use crate::showing::tell_heap;
 use rg_base::{EndNumbers, Outcome, Val};
 use rg_check::Accepted;
@@ -90,6 +90,7 @@ pub fn watch<S: Source>(
     'steps: for _ in 0..wanted.steps {
         let at = stepper.at();
         let before = stepper.numbers();
+        followed.give(bridge_given(&stepper, code, at));
         let outcome = stepper.step(code, input, source, &mut count, &mut trace);
         let made_region = manager_made(code, at);
         let Ok(()) = followed.follow(&stepper, made_region, before.made) else {

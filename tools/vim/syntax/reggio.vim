@@ -9,12 +9,12 @@ syn keyword reggioType int bool
 syn keyword reggioManager arena count trace
 syn keyword reggioConditional if else
 syn keyword reggioRepeat while
-syn keyword reggioStatement let print call swap enter as collect return
-syn keyword reggioRight new in freeze merge read more
+syn keyword reggioStatement let print call swap enter as giving collect return
+syn keyword reggioRight new in freeze merge read more size
 syn keyword reggioOperator and or not is
 syn keyword reggioConstant nil true false
 syn keyword reggioSelf self
-syn keyword reggioUnused giving size cown when
+syn keyword reggioUnused cown when
 syn match reggioNumber /\<\d\+\>/
 syn match reggioBadNumber /\<\d\+[A-Za-z_]\w*/
 syn match reggioSign /!=\|<=\|==\|>=\|%\|\*\|+\|-\|\/\|<\|=\|>/

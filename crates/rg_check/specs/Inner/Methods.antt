@@ -3,7 +3,6 @@
 use Rattle.std.specs.Prelude.{◌≡◌, ℕ, ◌≤◌, ⊤, List, All, Ok, IfSome}
 use Rattle.rg_base.specs.declared.limits.TheConstants.{BODY_NAMES}
 use Rattle.rg_tree.specs.Tree.{Ty as Written, Method, Member, field, method, Class}
-use Rattle.rg_tree.specs.Rows.RowTrees as rows
 use Rattle.rg_rules.specs.Answers.{Lined, Passed}
 use Rattle.rg_rules.specs.Types.{type_of, good_type}
 use Rattle.rg_rules.specs.Names.{method_names}

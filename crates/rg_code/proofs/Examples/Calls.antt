@@ -1,5 +1,5 @@
 -- A method that calls itself: its heading, its entry, results that are taken, and the end of a block in it.
-use Rattle.std.proofs.Common.{◌≡◌, refl, pos, false, [], ◌∷◌, Some, codes}
+use Rattle.std.proofs.Common.{◌≡◌, refl, pos, false, [], ◌∷◌, Some, codes, None}
 use Rattle.std.specs.Fmt.{digits}
 use Rattle.rg_base.specs.declared.words.Cap.TheVariants as cap
 use Rattle.rg_base.specs.declared.words.Manager.TheVariants as manager
@@ -19,7 +19,7 @@ recursion = program_on 10
     (then (stmt 5 (assign (var "r") (result_of (call_of self "go" (binary op.Sub (use_of "k") (number (pos 1)) ∷ []))))) empty) no_else))
     (then (stmt 7 (return (use_of "r"))) empty))) ∷ []) ∷ [])
     manager.Trace
-    (then (stmt 11 (declare (codes "a") (to cap.Mut "R") (new (codes "R"))))
+    (then (stmt 11 (declare (codes "a") (to cap.Mut "R") (new (codes "R") None)))
     (then (stmt 12 (declare (codes "n") int read))
     (then (stmt 13 (declare (codes "r") int (result_of (call_of (var "a") "go" (use_of "n" ∷ [])))))
     (then (stmt 14 (print (use_of "r"))) empty))))

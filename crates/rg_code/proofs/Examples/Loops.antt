@@ -1,5 +1,5 @@
 -- A loop with an `if` that has both blocks, a temporary, `merge`, the input, and an owner that is handed to a call.
-use Rattle.std.proofs.Common.{◌≡◌, refl, pos, true, false, [], ◌∷◌, Some, codes}
+use Rattle.std.proofs.Common.{◌≡◌, refl, pos, true, false, [], ◌∷◌, Some, codes, None}
 use Rattle.std.specs.Fmt.{digits}
 use Rattle.rg_base.specs.declared.words.Cap.TheVariants as cap
 use Rattle.rg_base.specs.declared.words.Manager.TheVariants as manager
@@ -12,7 +12,7 @@ use Rattle.rg_code.proofs.Examples.Words.{field_on, method_on, class_on, program
 
 -- `if y is nil { .. } else { .. }`
 abbrev pub choice : StmtKind
-choice = branch (is_nil (var "y")) (then (stmt 16 (assign (dot "t" "n") (new (codes "N")))) empty)
+choice = branch (is_nil (var "y")) (then (stmt 16 (assign (dot "t" "n") (new (codes "N") None))) empty)
     (otherwise
     (then (stmt 18 (declare (codes "n") (to cap.Mut "N") (merge (codes "y"))))
     (then (stmt 19 (assign (dot "t" "n") (value (use_of "n")))) empty)))
@@ -21,7 +21,7 @@ choice = branch (is_nil (var "y")) (then (stmt 16 (assign (dot "t" "n") (new (co
 abbrev pub loop : StmtKind
 loop = while (use_of "go")
     (then (stmt 15 choice)
-    (then (stmt 21 (assign (var "y") (new_iso (codes "N") manager.Trace)))
+    (then (stmt 21 (assign (var "y") (new_iso (codes "N") None manager.Trace)))
     (then (stmt 22 (assign (var "go") more)) empty)))
 
 abbrev pub merging : Tree
@@ -31,8 +31,8 @@ merging = program_on 10
     (field_on 5 "n" (to cap.Paused "N")
     ∷ method_on 6 cap.Tmp "take" (param "k" (to cap.Iso "N") ∷ []) (Some (to cap.Iso "N")) (then (stmt 7 (return (use_of "k"))) empty) ∷ []) ∷ [])
     manager.Count
-    (then (stmt 11 (declare (codes "t") (to cap.Tmp "T") (new_tmp (codes "T"))))
-    (then (stmt 12 (declare (codes "y") (to cap.Iso "N") (new_iso (codes "N") manager.Trace)))
+    (then (stmt 11 (declare (codes "t") (to cap.Tmp "T") (new_tmp (codes "T") None)))
+    (then (stmt 12 (declare (codes "y") (to cap.Iso "N") (new_iso (codes "N") None manager.Trace)))
     (then (stmt 13 (declare (codes "go") bool more))
     (then (stmt 14 loop)
     (then (stmt 24 (call (call_of (var "t") "take" (use_of "y" ∷ []))))

@@ -25,7 +25,7 @@ main_level scope = record { scope = scope; slots = 4; target = Drops; back = 0 }
 -- the first block of the `if` ends at 22, and the code goes on behind the `else`
 first_block_ends : Lies merging.classes (lowered merging).ops (main_level three ∷ [])
     (EndAt 3
-    ∷ Do (stmt 21 (assign (var "y") (new_iso (codes "N") manager.Trace)))
+    ∷ Do (stmt 21 (assign (var "y") (new_iso (codes "N") None manager.Trace)))
     ∷ Do (stmt 22 (assign (var "go") more))
     ∷ EndAt 3
     ∷ Do (stmt 14 loop)
@@ -88,7 +88,7 @@ method_ends : Lies regions.classes (lowered regions).ops
       back = 0;
     } ∷ [])
     (Back
-    ∷ Do (stmt 17 (enter (dot "z" "down") (codes "q") (then (stmt 18 (call (call_of (var "q") "get" []))) empty)))
+    ∷ Do (stmt 17 (enter (dot "z" "down") (codes "q") (then (stmt 18 (call (call_of (var "q") "get" []))) empty) None))
     ∷ LeaveAt 2
     ∷ Do (stmt 21 (assign (var "w") (value (use_of "y"))))
     ∷ Do (stmt 22 (declare (codes "f") (to cap.Imm "N") (freeze (codes "w"))))

@@ -1,5 +1,5 @@
 -- Words for examples: parts of programs as they are written, canonical texts and listings line by line.
-use Rattle.std.proofs.Common.{◌≡◌, ℕ, List, [], ◌∷◌, ◌++◌, Bool, Option, codes}
+use Rattle.std.proofs.Common.{◌≡◌, ℕ, List, [], ◌∷◌, ◌++◌, Bool, Option, Some, None, codes}
 use Prim.Native.String.{String}
 use Rattle.rg_base.specs.declared.words.Cap.{Cap}
 use Rattle.rg_base.specs.declared.words.Manager.{Manager}
@@ -18,7 +18,11 @@ method_on line k m ps r body = method (record { receiver = k; name = codes m; pa
 
 -- `class C { .. }` or `tmp class C { .. }` on a line
 abbrev pub class_on : (line : ℕ) → String → (is_tmp : Bool) → List Member → Class
-class_on line c is_tmp members = record { name = codes c; is_tmp = is_tmp; members = members; line = line }
+class_on line c is_tmp members = record { name = codes c; is_tmp = is_tmp; element = None; members = members; line = line }
+
+-- `class C [T];` or `tmp class C [T];` on a line
+abbrev pub array_on : (line : ℕ) → String → (is_tmp : Bool) → Ty → Class
+array_on line c is_tmp t = record { name = codes c; is_tmp = is_tmp; element = Some t; members = []; line = line }
 
 -- classes, and `main M { .. }` on a line
 abbrev pub program_on : (line : ℕ) → List Class → Manager → Block → Tree

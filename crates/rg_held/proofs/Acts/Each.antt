@@ -11,11 +11,13 @@ use Rattle.rg_held.specs.Ends.{Match}
 use Rattle.rg_held.specs.Laws.{owners_of, ActSame}
 use Rattle.rg_held.proofs.Lists.{off}
 use Rattle.rg_held.proofs.Acts.Stack.{match-more, two-same, push-same}
-use Rattle.rg_held.proofs.Acts.Easy.{stop-same, load-same, field-same, check-same, top-same, neg-same, and-same, or-same, more-same}
+use Rattle.rg_held.proofs.Acts.Easy.{stop-same, load-same, field-same, check-same, top-same, neg-same, and-same, or-same, more-same, size-same}
+use Rattle.rg_held.proofs.Acts.Easy.{bound-same, element-same}
 use Rattle.rg_held.proofs.Acts.Easy.{room-same, read-same, jump-false-same, print-same, clear-same, store-same, call-same}
 use Rattle.rg_held.proofs.Acts.Return.{own-same, end-same, drop-same, pop-same, ret-same, ret-void-same}
-use Rattle.rg_held.proofs.Acts.Leave.{leave-same}
-use Rattle.rg_held.proofs.Acts.Object.{new-same, new-temp-same, new-region-same, put-same, swap-same}
+use Rattle.rg_held.proofs.Acts.Leave.{leave-same, leave-giving-same}
+use Rattle.rg_held.proofs.Acts.Object.{new-same, new-temp-same, new-region-same, put-same, swap-same, new-array-same, new-temp-array-same}
+use Rattle.rg_held.proofs.Acts.Object.{new-region-array-same, put-element-same}
 use Rattle.rg_held.proofs.Acts.Consume.{freeze-same, merge-same}
 use Rattle.rg_held.proofs.Acts.Enter.{enter-same, enter-field-same}
 
@@ -88,3 +90,17 @@ act-same i.Collect code at also go taken stack u w a n m next jump = (next refl)
 act-same i.Pop code at also go taken stack u w a n m next jump = pop-same code at also go u w taken stack n m (next refl)
 act-same i.Drop code at also go taken stack u w a n m next jump = drop-same code at also go u w taken stack n m (next refl)
 act-same i.Halt code at also go taken stack u w a n m next jump = (refl, stop-same at taken stack u w n m)
+act-same (i.NewArray c) code at also go taken stack u w a n m next jump = new-array-same code at also go u w taken c stack n m (next refl)
+act-same (i.NewTmpArray c) code at also go taken stack u w a n m next jump =
+    new-temp-array-same code at also go u w taken c stack n m (next refl)
+act-same (i.NewIsoArray c g) code at also go taken stack u w a n m next jump =
+    new-region-array-same code at also go u w taken c g stack n m (next refl)
+act-same i.Size code at also go taken stack u w a n m next jump =
+    compute taken u w stack a m (λ m. size-same code at also go u w stack m (next refl))
+act-same i.Bound code at also go taken stack u w a n m next jump =
+    compute taken u w stack a m (λ m. bound-same code at also go u w stack m (next refl))
+act-same i.Element code at also go taken stack u w a n m next jump =
+    compute taken u w stack a m (λ m. element-same code at also go u w stack m (next refl))
+act-same i.PutElement code at also go taken stack u w a n m next jump = put-element-same code at also go u w taken stack n m (next refl)
+act-same (i.LeaveGiving v s) code at also go taken stack u w a n m next jump =
+    leave-giving-same code at also go u w taken v s stack n m (next refl)

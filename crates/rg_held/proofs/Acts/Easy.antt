@@ -1,5 +1,5 @@
 -- Instructions that free nothing and leave objects as they are, each beside the same over the growing store.
-use Rattle.std.proofs.Common.{◌≡◌, ℕ, ◌+◌, ◌-◌, ◌==◌, inl, inr, true, false, not, Bool as Truth, List, [], ◌∷◌, length, Option, Some}
+use Rattle.std.proofs.Common.{◌≡◌, ℕ, ◌+◌, ◌-◌, ◌==◌, inl, inr, true, false, not, Bool as Truth, List, [], ◌∷◌, length, Option, Some, pos}
 use Rattle.std.proofs.Common.{None, Result, Ok, Err, unwrap_or, refl, sym, ap, subst, ◌∙◌, slice_get}
 use Rattle.std.proofs.lemmas.Bool.{not-true, eqb-true, or_cases}
 use Rattle.std.specs.Prelude.{◌&&◌, nat_lt, neg_ℤ, if◌then◌else◌}
@@ -12,12 +12,12 @@ use Rattle.rg_base.specs.Input.{NextNumber, found, malformed, at_end, next_numbe
 use Rattle.rg_base.specs.declared.value.Val.{Val}
 use Rattle.rg_base.specs.declared.value.Val.TheVariants as val
 use Rattle.rg_rules.specs.Values.{as_int, as_bool, number_value}
-use Rattle.rg_rules.specs.Evaluation.{object_at}
+use Rattle.rg_rules.specs.Evaluation.{object_at, element_place}
 use Rattle.rg_rules.specs.RightSides.{is_left}
 use Rattle.rg_code.specs.declared.op.Op.TheVariants as i
 use Rattle.rg_code.specs.Code.{Code}
 use Rattle.rg_stack.specs.Machine.{slot_at}
-use Rattle.rg_stack.specs.Effects.{Work, Traps, Go, act, next_taken, on_top, stored, called}
+use Rattle.rg_stack.specs.Effects.{Work, Traps, Go, act, next_taken, on_top, stored, called, element_in, place_named}
 use Rattle.rg_code.specs.declared.code.Entry.{Entry}
 use Rattle.rg_stack.specs.Needs.{is_closed, is_empty, owned_once, size_of, may_keep, needs}
 use Rattle.rg_stack.specs.Labels.{is_into}
@@ -76,6 +76,62 @@ module _ (code : Code) (at : ℕ) (also go : Go) (u w : Work) where
           (elim r [ Ok o ↦ go 0 (v ∷ stack) w | Err t ↦ Traps t ])
       by (Err t) = refl
       by (Ok o) = next (v ∷ stack) u w m
+
+  -- how many elements an array has
+  pub size-same : (stack : List Val) → Match [] u w stack → GoesOn false also go
+      → SameEnd (free_act code at i.Size also stack u) (act code at i.Size go stack w)
+  size-same [] m next = tt
+  size-same (v ∷ stack) m next =
+      subst (λ r. SameEnd (elim r [ Ok o ↦ also 0 (val.Int (pos (length o.fields)) ∷ stack) u | Err t ↦ Traps t ])
+      (act code at i.Size go (v ∷ stack) w))
+      (sym (object-same m.0 [] u.machine w.machine (v ∷ stack) m.1.machine v m.1.machine.on_stack.0)) (by (object_at w.machine.store v))
+    where
+      by : (r : Result Seen Trap) → SameEnd (elim r [ Ok o ↦ also 0 (val.Int (pos (length o.fields)) ∷ stack) u | Err t ↦ Traps t ])
+          (elim r [ Ok o ↦ go 0 (val.Int (pos (length o.fields)) ∷ stack) w | Err t ↦ Traps t ])
+      by (Err t) = refl
+      by (Ok o) = push-same also go u w (val.Int (pos (length o.fields))) stack
+          (match-stack [] u w (v ∷ stack) stack m m.1.machine.on_stack.1) refl next
+
+  -- an index is tested
+  pub bound-same : (stack : List Val) → Match [] u w stack → GoesOn false also go
+      → SameEnd (free_act code at i.Bound also stack u) (act code at i.Bound go stack w)
+  bound-same [] m next = tt
+  bound-same (x ∷ []) m next = tt
+  bound-same (x ∷ v ∷ stack) m next =
+      subst (λ r. SameEnd (elim r [
+        | Ok o ↦ elim (element_place o x) [ Ok k ↦ also 0 (x ∷ v ∷ stack) u | Err t ↦ Traps t ]
+        | Err t ↦ Traps t
+      ]) (act code at i.Bound go (x ∷ v ∷ stack) w))
+      (sym (object-same m.0 [] u.machine w.machine (x ∷ v ∷ stack) m.1.machine v m.1.machine.on_stack.1.0)) (by (object_at w.machine.store v))
+    where
+      here : (k : Result ℕ Trap) → SameEnd (elim k [ Ok n ↦ also 0 (x ∷ v ∷ stack) u | Err t ↦ Traps t ])
+          (elim k [ Ok n ↦ go 0 (x ∷ v ∷ stack) w | Err t ↦ Traps t ])
+      here (Err t) = refl
+      here (Ok n) = next (x ∷ v ∷ stack) u w m
+
+      by : (r : Result Seen Trap) → SameEnd (elim r [
+        | Ok o ↦ elim (element_place o x) [ Ok k ↦ also 0 (x ∷ v ∷ stack) u | Err t ↦ Traps t ]
+        | Err t ↦ Traps t
+      ]) (elim r [ Ok o ↦ elim (element_place o x) [ Ok k ↦ go 0 (x ∷ v ∷ stack) w | Err t ↦ Traps t ] | Err t ↦ Traps t ])
+      by (Err t) = refl
+      by (Ok o) = here (element_place o x)
+
+  -- an element is read
+  pub element-same : (stack : List Val) → Match [] u w stack → GoesOn false also go
+      → SameEnd (free_act code at i.Element also stack u) (act code at i.Element go stack w)
+  element-same [] m next = tt
+  element-same (x ∷ []) m next = tt
+  element-same (x ∷ v ∷ stack) m next =
+      subst (λ r. SameEnd (also 0 (elim r [ Ok o ↦ unwrap_or (slice_get o.fields (place_named o x)) val.Nil | Err t ↦ val.Nil ] ∷ stack) u)
+      (act code at i.Element go (x ∷ v ∷ stack) w))
+      (sym (object-same m.0 [] u.machine w.machine (x ∷ v ∷ stack) m.1.machine v m.1.machine.on_stack.1.0))
+      (push-same also go u w (element_in w.machine.store v x) stack (match-stack [] u w (x ∷ v ∷ stack) stack m m.1.machine.on_stack.1.1)
+      (by (object_at w.machine.store v) refl) next)
+    where
+      by : (r : Result Seen Trap) → object_at w.machine.store v ≡ r
+          → leads_to m.0 (elim r [ Ok o ↦ unwrap_or (slice_get o.fields (place_named o x)) val.Nil | Err t ↦ val.Nil ]) ≡ true
+      by (Err t) e = refl
+      by (Ok o) e = field-leads m.0 [] u.machine w.machine (x ∷ v ∷ stack) m.1.machine v m.1.machine.on_stack.1.0 o e (place_named o x)
 
   -- the topmost value is looked at, and another one comes
   pub top-same : (f : Val → Val) → ((test : ℕ → Truth) (v : Val) → leads_to test (f v) ≡ true) → (stack : List Val) → Match [] u w stack

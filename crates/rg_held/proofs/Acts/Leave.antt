@@ -1,6 +1,7 @@
 -- The end of a window: slots, temporaries and the window go, and its region is closed.
 use Rattle.std.proofs.Common.{◌≡◌, ℕ, zero, suc, ◌==◌, ◌⊎◌, inl, inr, true, false, not, Bool as Truth, List, [], ◌∷◌, ◌++◌}
-use Rattle.std.proofs.Common.{length, Option, Some, None, unwrap_or, option_map, drop, reverse, refl, sym, ap, subst, ◌∙◌, arith, slice_get}
+use Rattle.std.proofs.Common.{length, Option, Some, None, unwrap_or, option_map, option_and_then, drop, reverse, refl, sym, ap, subst, ◌∙◌, arith}
+use Rattle.std.proofs.Common.{slice_get, Result, Ok, Err}
 use Rattle.std.proofs.lemmas.Option.{same_Some}
 use Rattle.std.proofs.lemmas.Bool.{or_right, not-true, eq-eqb, eqb-true, or_cases, cases_Bool}
 use Rattle.std.proofs.lemmas.Map.Keys.{any_passes_from_place}
@@ -11,18 +12,22 @@ use Rattle.rg_base.specs.declared.object.Label.TheVariants.{Region, Temp, Frozen
 use Rattle.rg_base.specs.declared.object.Place.{Place}
 use Rattle.rg_base.specs.declared.object.Place.TheVariants as place
 use Rattle.rg_base.specs.declared.object.Seen.{Seen}
+use Rattle.rg_base.specs.declared.outcome.Trap.{Trap}
 use Rattle.rg_base.specs.declared.value.Val.{Val}
 use Rattle.rg_base.specs.declared.value.Val.TheVariants as val
+use Rattle.rg_rules.specs.Values.{is_nil_value}
+use Rattle.rg_rules.specs.Evaluation.{object_at}
 use Rattle.rg_rules.specs.Regions.{in_regions}
-use Rattle.rg_sound.proofs.Stores.Member.{In, in-left, in-right, in-split}
+use Rattle.rg_sound.proofs.Stores.Member.{In, in-left, in-right, in-split, among-in as member-in}
 use Rattle.rg_code.specs.declared.op.Op.TheVariants as i
 use Rattle.rg_code.specs.Code.{Code}
-use Rattle.rg_stack.specs.Machine.{Frame, Window, Machine, top_slots, end_slots, place_of}
-use Rattle.rg_stack.specs.Effects.{Work, Go, act, without_top, top_window, beneath_by_labels}
+use Rattle.rg_stack.specs.Machine.{Frame, Window, Machine, top_slots, slot_at, end_slots, place_of}
+use Rattle.rg_stack.specs.Effects.{Work, Walked, Traps, Go, act, on_object, without_top, top_window, top_region, top_owner, put_at, left}
+use Rattle.rg_stack.specs.Effects.{beneath_by_labels}
 use Rattle.rg_stack.specs.Needs.{closed_into, owned_once, is_top_temp, is_to_temp, outlives}
 use Rattle.rg_stack.specs.Labels.{is_open, has_window, label_of, is_into, is_outside}
 use Rattle.rg_stack.specs.Needs.{field_of}
-use Rattle.rg_stack.specs.Needs.{top_base, temps_may_go, owner_leads, owner_at, value_at, needs}
+use Rattle.rg_stack.specs.Needs.{top_base, temps_may_go, owner_leads, owner_at, value_at, may_leave, seen_by_owner, needs}
 use Rattle.rg_stack.proofs.Basics.{none-some, and-left, and-right}
 use Rattle.rg_held.specs.Frees.{is_temp, closed_among, closed_by_temps, left_with, window_that_ends, bury, free_act, freed}
 use Rattle.rg_held.specs.Gone.{gone}
@@ -31,13 +36,13 @@ use Rattle.rg_held.specs.Part.{may_lead, Differ}
 use Rattle.rg_held.specs.Ends.{Match, SameEnd}
 use Rattle.rg_held.specs.Laws.{owners_of, GoesOn}
 use Rattle.rg_held.proofs.Lists.{off, any-at, drop-back, reverse-back}
-use Rattle.rg_held.proofs.Places.{or-right, clash, field-into, slot-into}
-use Rattle.rg_held.proofs.Places.{closed-back, closed-there}
+use Rattle.rg_held.proofs.Places.{or-right, clash, closed-back, closed-there, into-label, top-open, slot-into}
 use Rattle.rg_held.proofs.Parts.Part.{closed-above, field-frames, closed-same, top-slot, slot-over, field-over}
 use Rattle.rg_held.proofs.Parts.Half.{Half, Lost, whole}
-use Rattle.rg_held.proofs.Parts.Burial.{Burial, left_held, is_buried, NotBelow, temp-label, part-bury, unburied}
+use Rattle.rg_held.proofs.Parts.Burial.{Burial, left_held, is_buried, freed-closed, NotBelow, temp-label, part-bury, unburied}
 use Rattle.rg_held.proofs.Callers.Forget.{part-remembers}
-use Rattle.rg_held.proofs.Acts.Stack.{match-more}
+use Rattle.rg_held.proofs.Acts.Stack.{match-more, slot-leads, slot-same, object-same}
+use Rattle.rg_held.proofs.Acts.Give.{OwnerGiven, of-outside, part-given}
 use Rattle.rg_held.proofs.Parts.Slot.{end-back, part-end}
 use Rattle.rg_held.proofs.Acts.Release.{given-in, given-back, top-into, two-slots, slot-and-field, two-fields, Ending, among-in, among-back}
 use Rattle.rg_held.proofs.Acts.Release.{part-end-freed}
@@ -207,18 +212,22 @@ module _ (held : ℕ → Truth) (f m : Machine) (p : Half held [] f m []) (w v :
       → (l : FieldInto (record m { windows = ws }) w.region) × (l.object ≡ a)
   in-object a h k there of into = by (slice_get h.fields k) refl into
     where
-      outside : (l : Label) → is_of ws l ≡ true → is_outside ws w.region l ≡ true
-      outside (Region q) i = elim (cases_Bool (q == w.region)) [
-        | inl same ↦ clash (is_open ws w.region) (ap (is_open ws) (sym (eqb-true q w.region same)) ∙ i) shut
-        | inr other ↦ ap not other
-      ]
-      outside (Temp n) i = i
-      outside Frozen i = refl
-
       by : (s : Option Val) → slice_get h.fields k ≡ s → is_into m.store w.region (unwrap_or s val.Nil) ≡ true
           → (l : FieldInto (record m { windows = ws }) w.region) × (l.object ≡ a)
       by None at into = off into
-      by (Some x) at into = (field-into a k h x there at (outside h.label of) into, refl)
+      by (Some x) at into = (
+        record {
+          object = a;
+          field = k;
+          holder = h;
+          value = x;
+          holder_there = there;
+          value_there = at;
+          outside = of-outside ws w.region h.label shut of;
+          into = into;
+        },
+        refl,
+      )
 
   pub owner-placed : Placed held (record m { windows = ws }) w.region
   owner-placed = by w.owner mine leads
@@ -438,73 +447,219 @@ module _ (held : ℕ → Truth) (f m : Machine) (s : ℕ) (p : Part held [] f m 
       (owner-placed (left_held held m.store all (Some n)) (record (end_slots f s) { store = bury all (Some n) f.store }) (end_slots m s) buried
       w v rest e o)) lost
 
-module _ (code : Code) (at : ℕ) (also go : Go) (u w : Work) (taken : Truth) where
-  -- behind the end of a window, of which these remain
-  abbrev after : (s : ℕ) → Option ℕ → List Window → Work
-  after s t ws = record (freed (Some (left_with u.machine s t)) u) {
-    machine = record (end_slots (freed (Some (left_with u.machine s t)) u).machine s) { windows = ws };
-  }
+  -- the object of the owner is still held, and its place still leads into the region, which is closed
+  pub owner-kept : OwnerHeld (left_held held m.store all (Some n)) m.store (v ∷ rest) w.owner
+  owner-kept = (subst (λ l. OwnersHeld (left_held held m.store all (Some n)) m.store l) e buried.window_owners).0
 
+  pub owner-into : owner_at (record (end_slots m s) { windows = v ∷ rest }) w ≡ true
+  owner-into = subst (λ l. owner_leads (record (end_slots m s) { windows = l }) ≡ true) e o
+
+  pub region-shut : is_open (v ∷ rest) w.region ≡ false
+  region-shut = (subst Differ e p.tidy.differ).0
+
+-- what ends with a window is closed
+closed-among : (f : Machine) (vs : List Val) (q : ℕ) → In q (closed_among f vs) → is_open f.windows q ≡ false
+closed-among f vs q j = let r = given-back (closed_into f) vs q j in (closed-back f r.1.0 q r.1.2).closed
+
+pub closed-given : (f : Machine) (s : ℕ) (t : Option ℕ) (q : ℕ) → In q (left_with f s t).regions → is_open f.windows q ≡ false
+closed-given f s None q j = closed-among f (drop s (top_slots f.frames)) q j
+closed-given f s (Some n) q j = elim (in-split (closed_among f (drop s (top_slots f.frames))) (closed_by_temps f) q j) [
+  | inl slot ↦ closed-among f (drop s (top_slots f.frames)) q slot
+  | inr temp ↦
+      (let h = mapped-back (λ (h : Seen). closed_among f h.fields) (filter (λ (h : Seen). is_top_temp f h.label) f.store) q temp in
+      closed-among f h.1.0.fields q h.1.2)
+]
+
+region-no-temp : (t : Option ℕ) (r : ℕ) → is_temp t (Region r) ≡ false
+region-no-temp None r = refl
+region-no-temp (Some n) r = refl
+
+-- what leads into an open region still leads to what is held
+still-leads : (held : ℕ → Truth) (owners : List Val) (f m : Machine) (stack : List Val) → Part held owners f m stack → (s : ℕ) (t : Option ℕ)
+    (r : ℕ) (v : Val) → is_open m.windows r ≡ true → is_into m.store r v ≡ true → leads_to held v ≡ true
+    → leads_to (left_held held m.store (beneath_by_labels f.store (length f.managers) (left_with f s t).regions) t) v ≡ true
+still-leads held owners f m stack p s t r val.Nil opened into h = refl
+still-leads held owners f m stack p s t r (val.Int z) opened into h = refl
+still-leads held owners f m stack p s t r (val.Bool b) opened into h = refl
+still-leads held owners f m stack p s t r (val.Obj a) opened into h =
+    by (slice_get m.store a) refl (into-label m.store r (val.Obj a) into)
+  where
+    all : List ℕ
+    all = beneath_by_labels f.store (length f.managers) (left_with f s t).regions
+
+    not-freed : (b : Truth) → in_regions all (Region r) ≡ b → b ≡ false
+    not-freed false e = refl
+    not-freed true e = clash (is_open m.windows r) opened
+        (freed-closed held owners f m stack p (left_with f s t).regions t
+        (λ q j. ap (λ ws. is_open ws q) (sym p.windows) ∙ closed-given f s t q j) r (member-in all r e))
+
+    by : (o : Option Seen) → slice_get m.store a ≡ o → option_and_then (λ (o : Seen). Some o.label) o ≡ Some (Region r)
+        → left_held held m.store all t a ≡ true
+    by None there e = none-some (Region r) e
+    by (Some o) there e =
+        ap (λ b. b && elim (slice_get m.store a) [ None ↦ false | Some o ↦ not (is_buried all t o) ]) h
+        ∙ ap (λ (s : Option Seen). elim s [ None ↦ false | Some o ↦ not (is_buried all t o) ]) there
+        ∙ ap (λ l. not (in_regions all l || is_temp t l)) (same_Some o.label (Region r) e)
+        ∙ ap (λ b. not (b || is_temp t (Region r))) (not-freed (in_regions all (Region r)) refl) ∙ ap not (region-no-temp t r)
+
+-- what the end of a window needs
+record MayLeave (m : Machine) (s : ℕ) : Type 0 where
+  once : owned_once m ≡ true
+  temps : temps_may_go (end_slots m s) ≡ true
+  leads : owner_leads (end_slots m s) ≡ true
+
+may-leave : (m : Machine) (s : ℕ) → may_leave [] m s ≡ true → MayLeave m s
+may-leave m s n =
+    let both = owned_once m && temps_may_go (end_slots m s) in
+    let goes = and-left (both && owner_leads (end_slots m s)) (nat_le (place_of m.frames s) (top_base m.windows)) n in
+    let two = and-left both (owner_leads (end_slots m s)) goes in record {
+      once = and-left (owned_once m) (temps_may_go (end_slots m s)) two;
+      temps = and-right (owned_once m) (temps_may_go (end_slots m s)) two;
+      leads = and-right both (owner_leads (end_slots m s)) goes;
+    }
+
+-- behind the end of a window, of which these remain
+abbrev after : Work → (s : ℕ) → Option ℕ → List Window → Work
+after u s t ws = record (freed (Some (left_with u.machine s t)) u) {
+  machine = record (end_slots (freed (Some (left_with u.machine s t)) u).machine s) { windows = ws };
+}
+
+-- the same over the growing store
+abbrev beyond : Work → (s : ℕ) → List Window → Work
+beyond w s ws = record w { machine = record (end_slots w.machine s) { windows = ws } }
+
+module _ (u w : Work) (s : ℕ) (now : Match [] u w []) (may : MayLeave w.machine s) where
+  -- What is held behind the end of a window: all that leads into its region, and the object of its owner.
+  record Ended (ws : List Window) : Type 0 where
+    match : Match [] (after u s (window_that_ends ws) (without_top ws)) (beyond w s (without_top ws)) []
+    still : (v : Val) → is_into w.machine.store (top_region ws) v ≡ true → leads_to now.0 v ≡ true → leads_to match.0 v ≡ true
+    owner : (q : Place) → top_owner ws ≡ Some q → OwnerGiven match.0 (beyond w s (without_top ws)).machine (top_region ws) q
+
+  top-stays : (x : Window) (ws : List Window) → w.machine.windows ≡ x ∷ ws → is_open w.machine.windows x.region ≡ true
+  top-stays x ws e = ap (λ l. is_open l x.region) e ∙ top-open (x ∷ ws) tt
+
+  ended : (ws : List Window) → w.machine.windows ≡ ws → Ended ws
+  ended [] e = absurd (subst SomeWindow e now.1.machine.tidy.some_window)
+  ended (x ∷ []) e = record {
+    match = (held, record { machine = last x e; input = now.1.input; printed = now.1.printed });
+    still = λ v into h. still-leads now.0 [] u.machine w.machine [] now.1.machine s None x.region v (top-stays x [] e) into h;
+    owner = λ q is. none-some q is;
+  }
+    where
+      held : ℕ → Truth
+      held = left_held now.0 w.machine.store
+          (beneath_by_labels u.machine.store (length u.machine.managers) (closed_among u.machine (drop s (top_slots u.machine.frames)))) None
+
+      last : (x : Window) → w.machine.windows ≡ x ∷ []
+          → Part held [] (after u s None (x ∷ [])).machine (record (end_slots w.machine s) { windows = x ∷ [] }) []
+      last x e =
+          subst (λ l. Part held [] (after u s None l).machine (record (end_slots w.machine s) { windows = x ∷ [] }) [])
+          (now.1.machine.windows ∙ e)
+          (subst (λ l. Part held [] (after u s None u.machine.windows).machine (record (end_slots w.machine s) { windows = l }) []) e
+          (part-remembers _ [] _ (end_slots w.machine s) [] (part-end-freed now.0 u.machine w.machine s now.1.machine may.once) u.machine.windows
+          (λ r o. ap (λ ws. is_open ws r) now.1.machine.windows ∙ o)))
+  ended (x ∷ v ∷ rest) e = record {
+    match = (
+      held,
+      record {
+        machine = part-remembers _ [] _ (record (end_slots w.machine s) { windows = v ∷ rest }) []
+            (part-leave now.0 u.machine w.machine s now.1.machine x v rest e may.once may.temps may.leads) u.machine.windows
+            (λ r o. ap (λ ws. is_open ws r) (now.1.machine.windows ∙ e) ∙ or_right (x.region == r) (is_open (v ∷ rest) r) o);
+        input = now.1.input;
+        printed = now.1.printed;
+      },
+    );
+    still = λ y into h. still-leads now.0 [] u.machine w.machine [] now.1.machine s (Some x.number) x.region y (top-stays x (v ∷ rest) e) into h;
+    owner = λ q is. record {
+      held_there = subst (OwnerHeld held w.machine.store (v ∷ rest)) is
+          (owner-kept now.0 u.machine w.machine s now.1.machine x v rest e may.once may.temps may.leads);
+      into = sym (ap (λ (o : Option Place). elim o [
+        | None ↦ false
+        | Some p ↦ is_into w.machine.store x.region (value_at (end_slots w.machine s) p)
+      ]) is) ∙ owner-into now.0 u.machine w.machine s now.1.machine x v rest e may.once may.temps may.leads;
+      closed = region-shut now.0 u.machine w.machine s now.1.machine x v rest e may.once may.temps may.leads;
+    };
+  }
+    where
+      held : ℕ → Truth
+      held = left_held now.0 w.machine.store (beneath_by_labels u.machine.store (length u.machine.managers)
+          (closed_among u.machine (drop s (top_slots u.machine.frames)) ++ closed_by_temps u.machine)) (Some x.number)
+
+module _ (code : Code) (at : ℕ) (also go : Go) (u w : Work) (taken : Truth) where
   pub leave-same : (s : ℕ) (stack : List Val) → needs code (i.Leave s) stack w.machine ≡ true → Match (owners_of taken stack) u w stack
       → GoesOn true also go → SameEnd (free_act code at (i.Leave s) also stack u) (act code at (i.Leave s) go stack w)
   leave-same s (x ∷ more) n m next = off n
-  leave-same s [] n m next = next [] (after s (window_that_ends u.machine.windows) (without_top u.machine.windows))
-      (record w { machine = record (end_slots w.machine s) { windows = without_top w.machine.windows } })
-      (subst (λ ws. Match [] (after s (window_that_ends ws) (without_top ws))
-      (record w { machine = record (end_slots w.machine s) { windows = without_top w.machine.windows } }) [])
-      (sym now.1.machine.windows) (by w.machine.windows refl))
+  leave-same s [] n m next =
+      let now = match-more taken u w [] m in
+      next [] (after u s (window_that_ends u.machine.windows) (without_top u.machine.windows)) (beyond w s (without_top w.machine.windows))
+      (subst (λ ws. Match [] (after u s (window_that_ends ws) (without_top ws)) (beyond w s (without_top w.machine.windows)) [])
+      (sym now.1.machine.windows) (ended u w s now (may-leave w.machine s n) w.machine.windows refl).match)
+
+  -- The same, and then what leads into the region of the window that ends goes to the place of its owner.
+  pub leave-giving-same : (x s : ℕ) (stack : List Val) → needs code (i.LeaveGiving x s) stack w.machine ≡ true
+      → Match (owners_of taken stack) u w stack → GoesOn true also go
+      → SameEnd (free_act code at (i.LeaveGiving x s) also stack u) (act code at (i.LeaveGiving x s) go stack w)
+  leave-giving-same x s (y ∷ more) n m next = off n
+  leave-giving-same x s [] n m next =
+      subst (λ ws. SameEnd (frees ws (slot_at u.machine x)) (grows (slot_at w.machine x))) (sym now.1.machine.windows)
+      (subst (λ y. SameEnd (frees w.machine.windows y) (grows (slot_at w.machine x)))
+      (sym (slot-same now.0 [] u.machine w.machine [] now.1.machine x))
+      (by (slot_at w.machine x) (and-right (may_leave [] w.machine s) given two)
+      (slot-leads now.0 [] u.machine w.machine [] now.1.machine x)))
     where
       now : Match [] u w []
       now = match-more taken u w [] m
 
-      both : Truth
-      both = owned_once w.machine && temps_may_go (end_slots w.machine s)
+      given : Truth
+      given = is_nil_value (slot_at w.machine x) || is_into w.machine.store (top_region w.machine.windows) (slot_at w.machine x)
 
-      goes : (both && owner_leads (end_slots w.machine s)) ≡ true
-      goes = and-left (both && owner_leads (end_slots w.machine s)) (nat_le (place_of w.machine.frames s) (top_base w.machine.windows)) n
+      two : (may_leave [] w.machine s && given) ≡ true
+      two = and-left (may_leave [] w.machine s && given) (seen_by_owner w.machine s) n
 
-      once : owned_once w.machine ≡ true
-      once = and-left (owned_once w.machine) (temps_may_go (end_slots w.machine s)) (and-left both (owner_leads (end_slots w.machine s)) goes)
+      end : Ended u w s now (may-leave w.machine s (and-left (may_leave [] w.machine s) given two)) w.machine.windows
+      end = ended u w s now (may-leave w.machine s (and-left (may_leave [] w.machine s) given two)) w.machine.windows refl
 
-      may_go : temps_may_go (end_slots w.machine s) ≡ true
-      may_go = and-right (owned_once w.machine) (temps_may_go (end_slots w.machine s)) (and-left both (owner_leads (end_slots w.machine s)) goes)
+      -- behind the value that is given
+      freed-with : List Window → Val → Work
+      freed-with ws y = record (after u s (window_that_ends ws) (without_top ws)) {
+        machine = put_at (top_owner ws) y (after u s (window_that_ends ws) (without_top ws)).machine;
+      }
 
-      leads : owner_leads (end_slots w.machine s) ≡ true
-      leads = and-right both (owner_leads (end_slots w.machine s)) goes
+      grown-with : Val → Work
+      grown-with y = record w { machine = put_at (top_owner w.machine.windows) y (left w.machine s) }
 
-      by : (ws : List Window) → w.machine.windows ≡ ws → Match [] (after s (window_that_ends ws) (without_top ws))
-          (record w { machine = record (end_slots w.machine s) { windows = without_top ws } }) []
-      by [] e = absurd (subst SomeWindow e now.1.machine.tidy.some_window)
-      by (x ∷ []) e = (
-        left_held now.0 w.machine.store
-            (beneath_by_labels u.machine.store (length u.machine.managers) (closed_among u.machine (drop s (top_slots u.machine.frames)))) None,
+      frees : List Window → Val → Walked
+      frees ws y = on_object (after u s (window_that_ends ws) (without_top ws)).machine.store y (λ o. also 0 [] (freed-with ws y))
+
+      grows : Val → Walked
+      grows y = on_object w.machine.store y (λ o. go 0 [] (grown-with y))
+
+      matched : (y : Val) → is_into w.machine.store (top_region w.machine.windows) y ≡ true → leads_to end.match.0 y ≡ true
+          → Match [] (freed-with w.machine.windows y) (grown-with y) []
+      matched y into lead = (
+        end.match.0,
         record {
-          machine = last x e;
-          input = now.1.input;
-          printed = now.1.printed;
+          machine = part-given end.match.0 (after u s (window_that_ends w.machine.windows) (without_top w.machine.windows)).machine
+              (left w.machine s) end.match.1.machine (top_region w.machine.windows) y into lead (top_owner w.machine.windows) end.owner;
+          input = end.match.1.input;
+          printed = end.match.1.printed;
         },
       )
+
+      by : (y : Val) → (is_nil_value y || is_into w.machine.store (top_region w.machine.windows) y) ≡ true → leads_to now.0 y ≡ true
+          → SameEnd (frees w.machine.windows y) (grows y)
+      by val.Nil g lead = refl
+      by (val.Int z) g lead = refl
+      by (val.Bool b) g lead = refl
+      by (val.Obj a) g lead =
+          let still = end.still (val.Obj a) g lead in
+          subst (λ r. SameEnd (elim r [ Ok o ↦ also 0 [] (freed-with w.machine.windows (val.Obj a)) | Err t ↦ Traps t ]) (grows (val.Obj a)))
+          (sym (object-same end.match.0 [] (after u s (window_that_ends w.machine.windows) (without_top w.machine.windows)).machine
+          (left w.machine s) [] end.match.1.machine (val.Obj a) still))
+          (found (object_at w.machine.store (val.Obj a)) still)
         where
-          held : ℕ → Truth
-          held = left_held now.0 w.machine.store
-              (beneath_by_labels u.machine.store (length u.machine.managers) (closed_among u.machine (drop s (top_slots u.machine.frames)))) None
-
-          last : (x : Window) → w.machine.windows ≡ x ∷ []
-              → Part held [] (after s None (x ∷ [])).machine (record (end_slots w.machine s) { windows = x ∷ [] }) []
-          last x e =
-              subst (λ l. Part held [] (after s None l).machine (record (end_slots w.machine s) { windows = x ∷ [] }) [])
-              (now.1.machine.windows ∙ e)
-              (subst (λ l. Part held [] (after s None u.machine.windows).machine (record (end_slots w.machine s) { windows = l }) []) e
-              (part-remembers _ [] _ (end_slots w.machine s) [] (part-end-freed now.0 u.machine w.machine s now.1.machine once) u.machine.windows
-              (λ r o. ap (λ ws. is_open ws r) now.1.machine.windows ∙ o)))
-      by (x ∷ v ∷ rest) e = (
-        left_held now.0 w.machine.store (beneath_by_labels u.machine.store (length u.machine.managers)
-            (closed_among u.machine (drop s (top_slots u.machine.frames)) ++ closed_by_temps u.machine)) (Some x.number),
-        record {
-          machine = part-remembers _ [] _ (record (end_slots w.machine s) { windows = v ∷ rest }) []
-              (part-leave now.0 u.machine w.machine s now.1.machine x v rest e once may_go leads) u.machine.windows
-              (λ r o. ap (λ ws. is_open ws r) (now.1.machine.windows ∙ e) ∙ or_right (x.region == r) (is_open (v ∷ rest) r) o);
-          input = now.1.input;
-          printed = now.1.printed;
-        },
-      )
+          found : (r : Result Seen Trap) → leads_to end.match.0 (val.Obj a) ≡ true
+              → SameEnd (elim r [ Ok o ↦ also 0 [] (freed-with w.machine.windows (val.Obj a)) | Err t ↦ Traps t ])
+              (elim r [ Ok o ↦ go 0 [] (grown-with (val.Obj a)) | Err t ↦ Traps t ])
+          found (Err t) still = refl
+          found (Ok o) still = next [] (freed-with w.machine.windows (val.Obj a)) (grown-with (val.Obj a)) (matched (val.Obj a) g still)

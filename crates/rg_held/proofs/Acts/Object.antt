@@ -1,15 +1,16 @@
 -- Instructions that make objects or write fields, beside those over the growing store.
-use Rattle.std.proofs.Common.{◌≡◌, ℕ, zero, suc, ◌==◌, ◌<◌, inl, inr, true, false, not, Bool as Truth, List, [], ◌∷◌, ◌++◌}
+use Rattle.std.proofs.Common.{◌≡◌, ℕ, zero, suc, ◌==◌, ◌<◌, inl, inr, true, false, not, Bool as Truth, List, [], ◌∷◌, ◌++◌, replicate}
 use Rattle.std.proofs.Common.{length, map, Option, Some, None, Ok, Err, option_and_then, is_some, unwrap_or, refl, sym, ap, subst, ◌∙◌, arith}
-use Rattle.std.proofs.Common.{slice_get}
-use Rattle.std.proofs.Common.{slice_set}
+use Rattle.std.proofs.Common.{Result, slice_get, slice_set}
 use Rattle.std.proofs.lemmas.Option.{same_Some}
-use Rattle.std.proofs.lemmas.Bool.{not-true, eq-eqb, eqb-true, or_cases, ne_eqb}
+use Rattle.std.proofs.lemmas.Bool.{not-true, eq-eqb, eqb-true, or_cases, or_right, ne_eqb}
 use Rattle.std.proofs.lemmas.List.{length_push}
 use Rattle.std.specs.Prelude.{◌||◌, ◌&&◌, nat_lt, ok_or, if◌then◌else◌}
+use Rattle.std.specs.List.{list_any}
 use Rattle.rg_base.specs.declared.object.Label.{Label}
 use Rattle.rg_base.specs.declared.object.Label.TheVariants.{Region, Temp, Frozen}
 use Rattle.rg_base.specs.declared.object.Seen.{Seen}
+use Rattle.rg_base.specs.declared.outcome.Trap.{Trap}
 use Rattle.rg_base.specs.declared.outcome.Trap.TheVariants as trap
 use Rattle.rg_base.specs.declared.words.Manager.{Manager}
 use Rattle.rg_base.specs.declared.value.Val.{Val}
@@ -25,7 +26,8 @@ use Rattle.rg_code.specs.declared.op.Op.TheVariants as i
 use Rattle.rg_code.specs.Code.{Code}
 use Rattle.rg_stack.specs.Machine.{Window, Machine, value_of_word, slot_at, put_slot}
 use Rattle.rg_stack.specs.Effects.{Work, Go, Traps, act, made, with_store, with_value_in, put_in, top_region, top_window, on_object, stored}
-use Rattle.rg_stack.specs.Needs.{is_closed, closed_of, leads_nowhere, is_field}
+use Rattle.rg_stack.specs.Effects.{made_array, opening_element, put_element, place_named}
+use Rattle.rg_stack.specs.Needs.{is_closed, closed_of, leads_nowhere, is_field, opens_plain}
 use Rattle.rg_stack.specs.Labels.{is_open, has_window, label_of, is_into}
 use Rattle.rg_stack.specs.Needs.{is_writable, may_stand, field_of, owns_or_nil, owned_once, size_of, needs}
 use Rattle.rg_stack.specs.Labels.{is_outside}
@@ -38,11 +40,12 @@ use Rattle.rg_held.proofs.Lists.{off, set-new}
 use Rattle.rg_held.proofs.Places.{clash, not-closed, top-open}
 use Rattle.rg_held.proofs.Places.{label-there, into-label}
 use Rattle.rg_held.proofs.Parts.Part.{closed-above, part-owners}
-use Rattle.rg_held.proofs.Acts.Stack.{match-more, slot-leads, slot-same, field-leads}
+use Rattle.rg_held.proofs.Acts.Stack.{match-more, slot-leads, slot-same, field-leads, match-popped, match-owners, match-stack}
 use Rattle.rg_held.proofs.Parts.Slot.{part-put, put-there}
 use Rattle.rg_held.proofs.Acts.Make.{Plain, NewFits, with_new, part-region, part-new}
 use Rattle.rg_held.proofs.Acts.Write.{part-write}
 use Rattle.rg_held.proofs.Parts.Burial.{same-region}
+use Rattle.rg_rules.specs.RightSides.{array_size}
 
 -- a class opens its fields with no reference
 opened-plain : (ws : List Word) (k : ℕ) (v : Val) → leads_nowhere ws ≡ true → slice_get (map value_of_word ws) k ≡ Some v → Plain v
@@ -71,15 +74,15 @@ writable-open m l r some h lies c =
     let same = eqb-true r (top_region m.windows) (sym (ap (is_writable m) lies) ∙ h) in
     clash (is_open m.windows r) (ap (is_open m.windows) same ∙ top-open m.windows some) c
 
-module _ (code : Code) (also go : Go) (c : ℕ) (stack : List Val) where
-  abbrev object : Label → Seen
-  object l = record { class = c; fields = map value_of_word (unwrap_or (slice_get code.openings c) []); label = l }
-
-  pub made-same : (u w : Work) (l k : Label) → l ≡ k → (m : Match stack u w stack) → NewFits u.machine w.machine (object k) → GoesOn true also go
-      → SameEnd (made code c l also stack u) (made code c k go stack w)
-  made-same u w l k e m fits next =
-      subst (λ l. SameEnd (made code c l also stack u) (made code c k go stack w)) (sym e)
-      (subst (λ n. SameEnd (also 0 (val.Obj n ∷ stack) (with_store u (u.machine.store ++ object k ∷ []))) (made code c k go stack w))
+-- an object or an array that is made comes onto the stack
+module _ (also go : Go) (stack : List Val) (object : Label → Seen) where
+  pub object-comes : (u w : Work) (l k : Label) → l ≡ k → (m : Match stack u w stack) → NewFits u.machine w.machine (object k) → GoesOn true also go
+      → SameEnd (also 0 (val.Obj (length u.machine.store) ∷ stack) (with_store u (u.machine.store ++ object l ∷ [])))
+      (go 0 (val.Obj (length w.machine.store) ∷ stack) (with_store w (w.machine.store ++ object k ∷ [])))
+  object-comes u w l k e m fits next =
+      let last = go 0 (val.Obj (length w.machine.store) ∷ stack) (with_store w (w.machine.store ++ object k ∷ [])) in
+      subst (λ l. SameEnd (also 0 (val.Obj (length u.machine.store) ∷ stack) (with_store u (u.machine.store ++ object l ∷ []))) last) (sym e)
+      (subst (λ n. SameEnd (also 0 (val.Obj n ∷ stack) (with_store u (u.machine.store ++ object k ∷ []))) last)
       (sym m.1.machine.objects_made)
       (next (val.Obj (length w.machine.store) ∷ stack) (with_store u (u.machine.store ++ object k ∷ []))
       (with_store w (w.machine.store ++ object k ∷ [])) (
@@ -90,6 +93,46 @@ module _ (code : Code) (also go : Go) (c : ℕ) (stack : List Val) where
           printed = m.1.printed;
         },
       )))
+
+module _ (code : Code) (also go : Go) (c : ℕ) (stack : List Val) where
+  abbrev object : Label → Seen
+  object l = record { class = c; fields = map value_of_word (unwrap_or (slice_get code.openings c) []); label = l }
+
+  pub made-same : (u w : Work) (l k : Label) → l ≡ k → (m : Match stack u w stack) → NewFits u.machine w.machine (object k) → GoesOn true also go
+      → SameEnd (made code c l also stack u) (made code c k go stack w)
+  made-same u w l k e m fits next = object-comes also go stack object u w l k e m fits next
+
+  -- an array of as many elements as a value says
+  abbrev array : ℕ → Label → Seen
+  array n l = record { class = c; fields = replicate n (opening_element (unwrap_or (slice_get code.openings c) [])); label = l }
+
+  pub array-same : (v : Val) (u w : Work) (l k : Label) → l ≡ k → (m : Match stack u w stack)
+      → ((n : ℕ) → NewFits u.machine w.machine (array n k)) → GoesOn true also go
+      → SameEnd (made_array code c v l also stack u) (made_array code c v k go stack w)
+  array-same v u w l k e m fits next = by (array_size v)
+    where
+      by : (r : Result ℕ Trap) → SameEnd (elim r [
+        | Ok n ↦ also 0 (val.Obj (length u.machine.store) ∷ stack) (with_store u (u.machine.store ++ array n l ∷ []))
+        | Err t ↦ Traps t
+      ]) (elim r [
+        | Ok n ↦ go 0 (val.Obj (length w.machine.store) ∷ stack) (with_store w (w.machine.store ++ array n k ∷ []))
+        | Err t ↦ Traps t
+      ])
+      by (Err t) = refl
+      by (Ok n) = object-comes also go stack (array n) u w l k e m (fits n) next
+
+-- an element starts with no reference
+element-plain : (ws : List Word) → leads_nowhere ws ≡ true → Plain (opening_element ws)
+element-plain [] h = refl
+element-plain (word.Nil ∷ ws) h = refl
+element-plain (word.Int z ∷ ws) h = refl
+element-plain (word.Bool b ∷ ws) h = refl
+element-plain (word.Slot a ∷ ws) h = off h
+
+all-plain : (n k : ℕ) (x v : Val) → Plain x → slice_get (replicate n x) k ≡ Some v → Plain v
+all-plain zero k x v h e = none-some v e
+all-plain (suc n) zero x v h e = subst Plain (same_Some x v e) h
+all-plain (suc n) (suc k) x v h e = all-plain n k x v h e
 
 module _ (code : Code) (at : ℕ) (also go : Go) (u w : Work) (taken : Truth) where
   pub new-same : (c : ℕ) (stack : List Val) → needs code (i.New c) stack w.machine ≡ true → Match (owners_of taken stack) u w stack
@@ -136,6 +179,70 @@ module _ (code : Code) (at : ℕ) (also go : Go) (u w : Work) (taken : Truth) wh
         },
       ) (record {
         plain = λ k v e. opened-plain (unwrap_or (slice_get code.openings c) []) k v n e;
+        regions = λ r e. (let same = same-region (length w.machine.managers) r e in let b = length_push w.machine.managers g in
+            omega (arith, same, b));
+        managers = λ r e. (let same = same-region (length w.machine.managers) r e in
+            ap (slice_get (u.machine.managers ++ g ∷ [])) (sym same ∙ sym now.1.machine.managers_made) ∙ slice_get-push u.machine.managers g
+            ∙ sym (ap (slice_get (w.machine.managers ++ g ∷ [])) (sym same) ∙ slice_get-push w.machine.managers g));
+        temps = λ k e. region-temp (length w.machine.managers) k e;
+      }) next
+
+  -- arrays, behind their sizes
+
+  pub new-array-same : (c : ℕ) (stack : List Val) → needs code (i.NewArray c) stack w.machine ≡ true → Match (owners_of taken stack) u w stack
+      → GoesOn true also go → SameEnd (free_act code at (i.NewArray c) also stack u) (act code at (i.NewArray c) go stack w)
+  new-array-same c [] n m next = tt
+  new-array-same c (v ∷ stack) n m next =
+      let plain = and-left (opens_plain code c) (not (is_closed w.machine v)) n in
+      let shut = not-true (is_closed w.machine v) (and-right (opens_plain code c) (not (is_closed w.machine v)) n) in
+      let now = match-popped u w v stack shut (match-more taken u w (v ∷ stack) m) in
+      let top = top-open w.machine.windows now.1.machine.tidy.some_window in
+      array-same code also go c stack v u w (Region (top_region u.machine.windows)) (Region (top_region w.machine.windows))
+      (ap (λ ws. Region (top_region ws)) now.1.machine.windows) now (λ many. record {
+        plain = λ k x e. all-plain many k _ x (element-plain (unwrap_or (slice_get code.openings c) []) plain) e;
+        regions = λ r e. (let same = same-region (top_region w.machine.windows) r e in
+            now.1.machine.tidy.regions r (ap (is_open w.machine.windows) (sym same) ∙ top));
+        managers = λ r e. (let same = same-region (top_region w.machine.windows) r e in
+            now.1.machine.open_managers r (ap (is_open w.machine.windows) (sym same) ∙ top));
+        temps = λ k e. region-temp (top_region w.machine.windows) k e;
+      }) next
+
+  pub new-temp-array-same : (c : ℕ) (stack : List Val) → needs code (i.NewTmpArray c) stack w.machine ≡ true
+      → Match (owners_of taken stack) u w stack → GoesOn true also go
+      → SameEnd (free_act code at (i.NewTmpArray c) also stack u) (act code at (i.NewTmpArray c) go stack w)
+  new-temp-array-same c [] n m next = tt
+  new-temp-array-same c (v ∷ stack) n m next =
+      let plain = and-left (opens_plain code c) (not (is_closed w.machine v)) n in
+      let shut = not-true (is_closed w.machine v) (and-right (opens_plain code c) (not (is_closed w.machine v)) n) in
+      let now = match-popped u w v stack shut (match-more taken u w (v ∷ stack) m) in
+      let top = top-numbered w.machine.windows now.1.machine.tidy.some_window in
+      array-same code also go c stack v u w (Temp (top_window u.machine.windows)) (Temp (top_window w.machine.windows))
+      (ap (λ ws. Temp (top_window ws)) now.1.machine.windows) now (λ many. record {
+        plain = λ k x e. all-plain many k _ x (element-plain (unwrap_or (slice_get code.openings c) []) plain) e;
+        regions = λ r e. region-temp r (top_window w.machine.windows) (sym e);
+        managers = λ r e. region-temp r (top_window w.machine.windows) (sym e);
+        temps = λ k e. ap (has_window w.machine.windows) (sym (temp-is (top_window w.machine.windows) k e)) ∙ top;
+      }) next
+
+  pub new-region-array-same : (c : ℕ) (g : Manager) (stack : List Val) → needs code (i.NewIsoArray c g) stack w.machine ≡ true
+      → Match (owners_of taken stack) u w stack → GoesOn true also go
+      → SameEnd (free_act code at (i.NewIsoArray c g) also stack u) (act code at (i.NewIsoArray c g) go stack w)
+  new-region-array-same c g [] n m next = tt
+  new-region-array-same c g (v ∷ stack) n m next =
+      let plain = and-left (opens_plain code c) (not (is_closed w.machine v)) n in
+      let shut = not-true (is_closed w.machine v) (and-right (opens_plain code c) (not (is_closed w.machine v)) n) in
+      let now = match-popped u w v stack shut (match-more taken u w (v ∷ stack) m) in
+      array-same code also go c stack v (record u { machine = record u.machine { managers = u.machine.managers ++ g ∷ [] } })
+      (record w { machine = record w.machine { managers = w.machine.managers ++ g ∷ [] } }) (Region (length u.machine.managers))
+      (Region (length w.machine.managers)) (ap Region now.1.machine.managers_made) (
+        now.0,
+        record {
+          machine = part-region now.0 stack u.machine w.machine stack g now.1.machine;
+          input = now.1.input;
+          printed = now.1.printed;
+        },
+      ) (λ many. record {
+        plain = λ k x e. all-plain many k _ x (element-plain (unwrap_or (slice_get code.openings c) []) plain) e;
         regions = λ r e. (let same = same-region (length w.machine.managers) r e in let b = length_push w.machine.managers g in
             omega (arith, same, b));
         managers = λ r e. (let same = same-region (length w.machine.managers) r e in
@@ -246,6 +353,61 @@ module _ (code : Code) (at : ℕ) (also go : Go) (u w : Work) (taken : Truth) wh
   put-same k (v ∷ []) n m next = tt
   put-same k (v ∷ r ∷ x ∷ more) n m next = off n
   put-same k (v ∷ r ∷ []) n m next = put-value k v r n (match-more taken u w (v ∷ r ∷ []) m) next
+
+  -- a value goes into an element
+
+  element-value : (v x r : Val) → elim (object_at w.machine.store r) [
+    | Ok o ↦ is_field w.machine (place_named o x) o && not (is_closed w.machine (field_of o (place_named o x))) && may_stand w.machine o.label v
+    | Err t ↦ false
+  ] ≡ true → Match (v ∷ r ∷ []) u w (v ∷ r ∷ []) → GoesOn true also go
+      → SameEnd (also 0 [] (with_store u (put_element u.machine.store r x v))) (go 0 [] (with_store w (put_element w.machine.store r x v)))
+  element-value v x val.Nil n m next = off n
+  element-value v x (val.Int z) n m next = off n
+  element-value v x (val.Bool b) n m next = off n
+  element-value v x (val.Obj a) n m next = by (slice_get w.machine.store a) refl n
+    where
+      by : (s : Option Seen) → slice_get w.machine.store a ≡ s → elim (ok_or s trap.Nil) [
+        | Ok o ↦ is_field w.machine (place_named o x) o && not (is_closed w.machine (field_of o (place_named o x)))
+            && may_stand w.machine o.label v
+        | Err t ↦ false
+      ] ≡ true → SameEnd (also 0 [] (with_store u (put_element u.machine.store (val.Obj a) x v)))
+          (go 0 [] (with_store w (put_element w.machine.store (val.Obj a) x v)))
+      by None e n = off n
+      by (Some o) e n =
+          let put : List Seen → Option Seen → List Seen = λ store s. elim (ok_or s trap.Nil) [
+            | Ok o ↦ put_in store (val.Obj a) (place_named o x) v
+            | Err t ↦ store
+          ] in
+          subst (λ s. SameEnd (also 0 [] (with_store u s)) (go 0 [] (with_store w (put_element w.machine.store (val.Obj a) x v))))
+          (sym (ap (put u.machine.store) (m.1.machine.same a m.1.machine.on_stack.1.0 ∙ e)))
+          (subst (λ s. SameEnd (also 0 [] (with_store u (put_in u.machine.store (val.Obj a) (place_named o x) v))) (go 0 [] (with_store w s)))
+          (sym (ap (put w.machine.store) e)) (put-object (place_named o x) a v o e n m next))
+
+  pub put-element-same : (stack : List Val) → needs code i.PutElement stack w.machine ≡ true → Match (owners_of taken stack) u w stack
+      → GoesOn true also go → SameEnd (free_act code at i.PutElement also stack u) (act code at i.PutElement go stack w)
+  put-element-same [] n m next = tt
+  put-element-same (v ∷ []) n m next = tt
+  put-element-same (v ∷ x ∷ []) n m next = tt
+  put-element-same (v ∷ x ∷ r ∷ y ∷ more) n m next = off n
+  put-element-same (v ∷ x ∷ r ∷ []) n m next =
+      let test : Truth = elim (object_at w.machine.store r) [
+        | Ok o ↦ is_field w.machine (place_named o x) o && not (is_closed w.machine (field_of o (place_named o x)))
+            && may_stand w.machine o.label v
+        | Err t ↦ false
+      ] in
+      let shut = not-true (is_closed w.machine x) (and-left (not (is_closed w.machine x)) test n) in
+      let now = match-more taken u w (v ∷ x ∷ r ∷ []) m in
+      let others = match-owners (v ∷ x ∷ r ∷ []) (v ∷ r ∷ []) u w (v ∷ x ∷ r ∷ []) now (λ q c any.
+      elim (or_cases (is_into w.machine.store q v) (list_any (is_into w.machine.store q) (x ∷ r ∷ [])) any) [
+        | inl top ↦ inr (ap (λ b. b || (is_into w.machine.store q r || false)) top)
+        | inr rest ↦ elim (or_cases (is_into w.machine.store q x) (is_into w.machine.store q r || false) rest) [
+          | inl index ↦ not-closed w.machine x q shut index c
+          | inr last ↦ inr (or_right (is_into w.machine.store q v) (is_into w.machine.store q r || false) last)
+        ]
+      ]) in
+      element-value v x r (and-right (not (is_closed w.machine x)) test n)
+      (match-stack (v ∷ r ∷ []) u w (v ∷ x ∷ r ∷ []) (v ∷ r ∷ []) others
+      (others.1.machine.on_stack.0, others.1.machine.on_stack.1.1)) next
 
   -- a reference into a closed region, or nil, may stand in a region's field
   owns-leads : (v : Val) (q : ℕ) (l : Label) → owns_or_nil w.machine v ≡ true → label_of w.machine.store v ≡ Some l

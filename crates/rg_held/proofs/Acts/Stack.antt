@@ -1,5 +1,5 @@
 -- Instructions that work on the stack alone.
-use Rattle.std.proofs.Common.{◌≡◌, ℕ, ◌⊎◌, true, false, Bool as Truth, List, [], ◌∷◌, Option, Some}
+use Rattle.std.proofs.Common.{◌≡◌, ℕ, ◌⊎◌, inl, inr, true, false, Bool as Truth, List, [], ◌∷◌, Option, Some}
 use Rattle.std.proofs.Common.{None, Result, Ok, Err, unwrap_or, refl, sym, ap, ◌∙◌, slice_get}
 use Rattle.std.specs.Prelude.{ℤ, ◌+ℤ◌, ◌-ℤ◌, ◌*ℤ◌, int_div, int_rem, ok_or, if◌then◌else◌}
 use Rattle.std.specs.List.{list_any}
@@ -20,7 +20,10 @@ use Rattle.rg_held.specs.Part.{leads_to, AllLead, Placed, Part}
 use Rattle.rg_held.specs.Ends.{Match, SameEnd}
 use Rattle.rg_held.specs.Laws.{owners_of, GoesOn}
 use Rattle.rg_held.proofs.Lists.{off}
-use Rattle.rg_held.proofs.Parts.Part.{top-leads, part-stack, part-owners}
+use Rattle.rg_held.proofs.Parts.Part.{part-stack, part-owners, top-leads}
+use Rattle.rg_stack.specs.Needs.{is_closed}
+use Rattle.rg_held.proofs.Places.{not-closed}
+use Rattle.std.proofs.lemmas.Bool.{or_cases}
 
 -- another stack
 abbrev pub match-stack : (owners : List Val) (u w : Work) (stack left : List Val) (m : Match owners u w stack) → AllLead m.0 left
@@ -51,6 +54,17 @@ match-owners owners kept u w stack m h = (
 pub match-more : (taken : Truth) (u w : Work) (stack : List Val) → Match (owners_of taken stack) u w stack → Match stack u w stack
 match-more true u w stack m = m
 match-more false u w stack m = match-owners [] stack u w stack m (λ r c e. off e)
+
+-- a value that leads into no closed region counts for nothing
+pub match-popped : (u w : Work) (v : Val) (stack : List Val) → is_closed w.machine v ≡ false → Match (v ∷ stack) u w (v ∷ stack)
+    → Match stack u w stack
+match-popped u w v stack shut m =
+    let others = match-owners (v ∷ stack) stack u w (v ∷ stack) m (λ r c any.
+    elim (or_cases (is_into w.machine.store r v) (list_any (is_into w.machine.store r) stack) any) [
+      | inl top ↦ not-closed w.machine v r shut top c
+      | inr rest ↦ inr rest
+    ]) in
+    match-stack stack u w (v ∷ stack) stack others others.1.machine.on_stack.1
 
 -- an operator gives no reference
 

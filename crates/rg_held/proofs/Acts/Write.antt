@@ -52,7 +52,7 @@ module _ (held : ℕ → Truth) (owners : List Val) (f m : Machine) (stack : Lis
     | inr other ↦ ap (option_and_then (λ (o : Seen). Some o.label)) (set-apart m.store a b n (differs b other))
   ]
 
-  into-set : (r : ℕ) (u : Val) → is_into store r u ≡ is_into m.store r u
+  pub into-set : (r : ℕ) (u : Val) → is_into store r u ≡ is_into m.store r u
   into-set r u = ap (λ (l : Option Label). elim l [ None ↦ false | Some l ↦ lies_in r l ]) (label-set u)
 
   any-set : (r : ℕ) (vs : List Val) → list_any (is_into store r) vs ≡ list_any (is_into m.store r) vs

@@ -195,6 +195,7 @@ fit-with t p input fit = record {
   opened = fit.opened;
   forest = fit.forest;
   numbers = fit.numbers;
+  bridges = fit.bridges;
 }
 
 shows-with : (t : Tree) (code : Code) (m : Machine) (p : State) (input : List ℕ) → Fit t p → Shows t.classes code m p

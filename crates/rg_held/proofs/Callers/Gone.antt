@@ -1,5 +1,5 @@
 -- What is gone stays so, whatever the machine that frees does. For callers.
-use Rattle.std.proofs.Common.{◌≡◌, ℕ, ◌+◌, true, false, Bool as Truth}
+use Rattle.std.proofs.Common.{◌≡◌, ℕ, ◌+◌, true, false, Bool as Truth, Ok, Err, Result}
 use Rattle.std.proofs.Common.{List, [], ◌∷◌, drop, length, Option, Some, None, refl, slice_get, slice_set}
 use Rattle.std.specs.Prelude.{nat_lt, unwrap_or}
 use Rattle.rg_base.specs.Input.{next_number}
@@ -11,14 +11,14 @@ use Rattle.rg_base.specs.declared.outcome.Trap.TheVariants as trap
 use Rattle.rg_base.specs.declared.value.Val.{Val}
 use Rattle.rg_base.specs.declared.value.Val.TheVariants as val
 use Rattle.rg_tree.specs.declared.rows.BinOp.TheVariants as op
-use Rattle.rg_rules.specs.Evaluation.{object_at}
+use Rattle.rg_rules.specs.Evaluation.{object_at, element_place}
 use Rattle.rg_rules.specs.Regions.{region_of}
 use Rattle.rg_rules.specs.Values.{as_bool}
 use Rattle.rg_code.specs.declared.op.Op.{Op}
 use Rattle.rg_code.specs.declared.op.Op.TheVariants as i
 use Rattle.rg_code.specs.Code.{Code}
 use Rattle.rg_stack.specs.Machine.{Machine, slot_at}
-use Rattle.rg_stack.specs.Effects.{Work, Walked, Stops, Returns, Traps, Stuck, Go}
+use Rattle.rg_stack.specs.Effects.{Work, Walked, Stops, Returns, Traps, Stuck, Go, put_element, place_named, top_owner, left, put_at}
 use Rattle.rg_stack.specs.Effects.{entered, relabel, beneath_by_labels, top_region, put_in, with_value_in}
 use Rattle.rg_stack.specs.Runs.{Stepped, Goes, Ends, Trapped, Lost, come_to, landed, stopped}
 use Rattle.rg_base.specs.declared.object.Place.{Place}
@@ -28,6 +28,9 @@ use Rattle.rg_held.proofs.Lists.{push-old}
 use Rattle.rg_held.proofs.Walks.Keep.{Kept, Ending, Onward, ending-kept, on-called, on-returned, on-top, on-object, on-test, on-pushed}
 use Rattle.rg_held.proofs.Walks.Keep.{on-two, on-number, on-opened, on-walk}
 use Rattle.rg_held.proofs.Freed.Changes.{written-gone, moved-gone, bury-gone}
+use Rattle.rg_rules.specs.RightSides.{array_size}
+use Rattle.rg_base.specs.declared.outcome.Trap.{Trap}
+use Rattle.rg_base.specs.declared.object.Place.TheVariants as place
 
 -- what is gone of one store is gone of the other
 abbrev pub StaysGone : (old new : List Seen) → Type 0
@@ -70,6 +73,18 @@ module _ (a : ℕ) where
           → slice_get (elim o [ None ↦ store | Some o ↦ slice_set store b (with_value_in o k v) ]) a ≡ Some gone
       by None here = now
       by (Some o) here = written-gone store b k v o here a now
+
+  now-element : (store : List Seen) (r x v : Val) → slice_get store a ≡ Some gone → slice_get (put_element store r x v) a ≡ Some gone
+  now-element store r x v now = by (object_at store r)
+    where
+      by : (o : Result Seen Trap) → slice_get (elim o [ Ok o ↦ put_in store r (place_named o x) v | Err t ↦ store ]) a ≡ Some gone
+      by (Ok o) = now-put store r (place_named o x) v now
+      by (Err t) = now
+
+  now-placed : (o : Option Place) (v : Val) (m : Machine) → slice_get m.store a ≡ Some gone → slice_get (put_at o v m).store a ≡ Some gone
+  now-placed None v m now = now
+  now-placed (Some (place.Var n s)) v m now = now
+  now-placed (Some (place.Field b k)) v m now = now-put m.store (val.Obj b) k v now
 
   module _ (code : Code) where
     on-act : (at : ℕ) (o : Op) (go : Go) (stack : List Val) (w : Work) → Onward Now (Ending Now) go → Now w → Ending Now (free_act code at o go stack w)
@@ -127,6 +142,23 @@ module _ (a : ℕ) where
     on-act at i.Pop go stack w h now = on-top kept stack _ (λ v rest. h 0 _ _ (now-freed w (given_up i.Pop stack w.machine) now))
     on-act at i.Drop go stack w h now = on-top kept stack _ (λ v rest. h 0 _ _ (now-freed w (given_up i.Drop stack w.machine) now))
     on-act at i.Halt go stack w h now = now
+    on-act at (i.NewArray c) go stack w h now = on-top kept stack _ (λ v rest. on-object kept (array_size v) _
+        (λ n is. h 0 _ _ (push-old w.machine.store _ gone a now)))
+    on-act at (i.NewTmpArray c) go stack w h now = on-top kept stack _ (λ v rest. on-object kept (array_size v) _
+        (λ n is. h 0 _ _ (push-old w.machine.store _ gone a now)))
+    on-act at (i.NewIsoArray c m) go stack w h now = on-top kept stack _ (λ v rest. on-object kept (array_size v) _
+        (λ n is. h 0 _ _ (push-old w.machine.store _ gone a now)))
+    on-act at i.Size go stack w h now = on-top kept stack _ (λ v rest. on-object kept (object_at w.machine.store v) _ (λ o is. h 0 _ _ now))
+    on-act at i.Bound go stack w h now = on-top kept stack _ (λ v rest. on-top kept rest _ (λ r under.
+        on-object kept (object_at w.machine.store r) _ (λ o is. on-object kept (element_place o v) _ (λ k there. h 0 _ _ now))))
+    on-act at i.Element go stack w h now = on-top kept stack _ (λ v rest. on-top kept rest _ (λ r under. h 0 _ _ now))
+    on-act at i.PutElement go stack w h now = on-top kept stack _ (λ v rest. on-top kept rest _ (λ x below. on-top kept below _ (λ r under.
+        h 0 _ _ (now-element w.machine.store r x v now))))
+    on-act at (i.LeaveGiving v s) go stack w h now =
+        let given = given_up (i.LeaveGiving v s) stack w.machine in
+        let x = freed given w in
+        on-object kept (object_at x.machine.store (slot_at x.machine v)) _ (λ o is.
+        h 0 _ _ (now-placed (top_owner x.machine.windows) (slot_at x.machine v) (left x.machine s) (now-freed w given now)))
     on-act at _ go stack w h now = h 0 _ _ now
 
     on-walks : (os : List Op) (at : ℕ) → Onward Now (Ending Now) (free_walk code os at)

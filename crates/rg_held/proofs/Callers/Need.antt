@@ -30,7 +30,9 @@ use Rattle.rg_stack.specs.Needs.{closed_of, closed_into, is_closed, slots_into, 
 use Rattle.rg_stack.specs.Labels.{is_open, label_of, lies_in, is_into, is_outside}
 use Rattle.rg_stack.specs.Needs.{places_into, all_below, owned_once, loose, owns_or_nil, is_top_temp, is_to_temp, outlives, temps_may_go, is_writable}
 use Rattle.rg_stack.specs.Needs.{top_base, is_open_label, may_keep}
-use Rattle.rg_stack.specs.Needs.{may_stand, field_of, of_object, is_field, value_at, owner_leads, is_empty, of_top, needs}
+use Rattle.rg_stack.specs.Needs.{may_stand, field_of, of_object, is_field, value_at, owner_leads, is_empty, of_top, may_leave}
+use Rattle.rg_stack.specs.Needs.{is_near, owned_alone, owner_near, seen_by_owner, needs}
+use Rattle.rg_stack.specs.Effects.{left, without_top, top_region, top_owner, place_named}
 use Rattle.rg_stack.proofs.Basics.{none-some, and-left, and-right}
 use Rattle.rg_stack.proofs.Callers.Need.{below_by}
 use Rattle.rg_held.specs.Gone.{gone}
@@ -38,6 +40,9 @@ use Rattle.rg_held.specs.Part.{leads_to, AllLead, Part, OwnerHeld, OwnersHeld}
 use Rattle.rg_held.specs.Laws.{NeedsSame}
 use Rattle.rg_held.proofs.Lists.{off, any-at, reverse-back, ended-back}
 use Rattle.rg_held.proofs.Parts.Part.{top-leads, top-slot, slots-back}
+
+fewer : (k n c : ℕ) → k ≤ n → nat_le n c ≡ true → nat_le k c ≡ true
+fewer k n c h e = grind (arith, h, e)
 
 -- tests of which the one follows from the other
 
@@ -196,9 +201,9 @@ module _ (held : ℕ → Truth) (store : List Seen) (managers : List Manager) (m
       m.frames m.frames refl (λ n x y at there. subst (λ (y : Frame). count_by (is_into store r) x.slots ≤ count_by (is_into m.store r) y.slots)
       (same_Some x y (sym at ∙ there)) (count-less r x.slots (λ j v. b.slots n x j v at)))
 
-  fields-less : (r : ℕ) → fields_into store m.windows r store ≤ fields_into m.store m.windows r m.store
-  fields-less r = sum-less (λ (o : Seen). cond (is_outside m.windows r o.label) (count_by (is_into store r) o.fields) 0)
-      (λ (o : Seen). cond (is_outside m.windows r o.label) (count_by (is_into m.store r) o.fields) 0) store m.store b.objects one
+  fields-less : (ws : List Window) (r : ℕ) → fields_into store ws r store ≤ fields_into m.store ws r m.store
+  fields-less ws r = sum-less (λ (o : Seen). cond (is_outside ws r o.label) (count_by (is_into store r) o.fields) 0)
+      (λ (o : Seen). cond (is_outside ws r o.label) (count_by (is_into m.store r) o.fields) 0) store m.store b.objects one
     where
       none : (t : Truth) (n : ℕ) → ◌≤◌ (cond t 0 0) n
       none true n = omega arith
@@ -209,22 +214,22 @@ module _ (held : ℕ → Truth) (store : List Seen) (managers : List Manager) (m
       some false k n h = omega arith
 
       one : (a : ℕ) (x y : Seen) → slice_get store a ≡ Some x → slice_get m.store a ≡ Some y
-          → cond (is_outside m.windows r x.label) (count_by (is_into store r) x.fields) 0
-          ≤ cond (is_outside m.windows r y.label) (count_by (is_into m.store r) y.fields) 0
+          → cond (is_outside ws r x.label) (count_by (is_into store r) x.fields) 0
+          ≤ cond (is_outside ws r y.label) (count_by (is_into m.store r) y.fields) 0
       one a x y at there = elim (cases_Bool (held a)) [
-        | inl h ↦ subst (λ (x : Seen). cond (is_outside m.windows r x.label) (count_by (is_into store r) x.fields) 0
-            ≤ cond (is_outside m.windows r y.label) (count_by (is_into m.store r) y.fields) 0)
+        | inl h ↦ subst (λ (x : Seen). cond (is_outside ws r x.label) (count_by (is_into store r) x.fields) 0
+            ≤ cond (is_outside ws r y.label) (count_by (is_into m.store r) y.fields) 0)
             (same_Some y x (sym there ∙ sym (b.same a h) ∙ at))
-            (some (is_outside m.windows r y.label) (count_by (is_into store r) y.fields) (count_by (is_into m.store r) y.fields)
+            (some (is_outside ws r y.label) (count_by (is_into store r) y.fields) (count_by (is_into m.store r) y.fields)
             (count-less r y.fields (λ k v. b.fields a y k v h there)))
-        | inr n ↦ subst (λ (x : Seen). cond (is_outside m.windows r x.label) (count_by (is_into store r) x.fields) 0
-            ≤ cond (is_outside m.windows r y.label) (count_by (is_into m.store r) y.fields) 0)
+        | inr n ↦ subst (λ (x : Seen). cond (is_outside ws r x.label) (count_by (is_into store r) x.fields) 0
+            ≤ cond (is_outside ws r y.label) (count_by (is_into m.store r) y.fields) 0)
             (same_Some gone x (sym (b.others a n ∙ ap (option_map (λ (o : Seen). gone)) there) ∙ at))
-            (none (is_outside m.windows r gone.label) (cond (is_outside m.windows r y.label) (count_by (is_into m.store r) y.fields) 0))
+            (none (is_outside ws r gone.label) (cond (is_outside ws r y.label) (count_by (is_into m.store r) y.fields) 0))
       ]
 
   places-less : (r : ℕ) → places_into g r ≤ places_into m r
-  places-less r = let a = slots-less r in let c = fields-less r in omega (arith, a, c)
+  places-less r = let a = slots-less r in let c = fields-less m.windows r in omega (arith, a, c)
 
   once-over : owned_once m ≡ true → owned_once g ≡ true
   once-over e = subst (λ n. all_below n (λ r. is_open m.windows r || nat_le (places_into g r) 1) ≡ true) (sym b.made)
@@ -234,7 +239,36 @@ module _ (held : ℕ → Truth) (store : List Seen) (managers : List Manager) (m
       (places-less r))) e)
     where
       less : (k n : ℕ) → k ≤ n → nat_le n 1 ≡ true → nat_le k 1 ≡ true
-      less k n h e = grind (arith, h, e)
+      less k n h e = fewer k n 1 h e
+
+  -- its owner's place may be written as well
+  near-over : owner_near m ≡ true → owner_near g ≡ true
+  near-over e = by m.windows b.owners e
+    where
+      writable : (ws : List Window) (l : Label) → is_writable (record g { windows = ws }) l ≡ is_writable (record m { windows = ws }) l
+      writable ws (Region r) = refl
+      writable ws (Temp n) = refl
+      writable ws Frozen = refl
+
+      field-near : (k : ℕ) (q : Option Seen)
+          → elim q [ None ↦ false | Some o ↦ is_field (record m { windows = without_top m.windows }) k o ] ≡ true
+          → elim q [ None ↦ false | Some o ↦ is_field (record g { windows = without_top m.windows }) k o ] ≡ true
+      field-near k None e = e
+      field-near k (Some o) e = ap (λ t. t && nat_lt k (length o.fields)) (writable (without_top m.windows) o.label) ∙ e
+
+      of : (us : List Window) (o : Option Place) → OwnerHeld held m.store us o → elim o [ None ↦ true | Some p ↦ is_near m p ] ≡ true
+          → elim o [ None ↦ true | Some p ↦ is_near g p ] ≡ true
+      of us None h e = refl
+      of us (Some (place.Var n s)) h e = e
+      of us (Some (place.Field a k)) h e = field-near k (slice_get store a)
+          (ap (λ (q : Option Seen). elim q [ None ↦ false | Some o ↦ is_field (record m { windows = without_top m.windows }) k o ])
+          (b.same a h.0) ∙ e)
+
+      by : (ws : List Window) → OwnersHeld held m.store ws → elim (top_owner ws) [ None ↦ true | Some p ↦ is_near m p ] ≡ true
+          → elim (top_owner ws) [ None ↦ true | Some p ↦ is_near g p ] ≡ true
+      by [] o e = refl
+      by (w ∷ []) o e = refl
+      by (w ∷ v ∷ ws) o e = of (v ∷ ws) w.owner o.0 e
 
   loose-over : (v : Val) → leads_to held v ≡ true → loose m v ≡ true → loose g v ≡ true
   loose-over v h e = ap (λ (o : Option ℕ). elim o [ None ↦ true | Some r ↦ places_into g r == 0 ]) (closed-over v h) ∙ by (closed_into m v) e
@@ -374,6 +408,19 @@ module _ (held : ℕ → Truth) (store : List Seen) (managers : List Manager) (m
   once : owned_once m ≡ true → owned_once f ≡ true
   once = once-over held store managers m b
 
+  -- once the topmost window is gone, no more places lead into its region, and its owner's may be written as well
+  seen-more : (s : ℕ) → seen_by_owner m s ≡ true → seen_by_owner f s ≡ true
+  seen-more s e = and-more (owned_alone m s) (owner_near m) (owned_alone f s) (owner_near f) e
+      (fewer (places_into (left f s) (top_region m.windows)) (places_into (left m s) (top_region m.windows)) 1 places)
+      (near-over held store managers m b)
+    where
+      places : places_into (left f s) (top_region m.windows) ≤ places_into (left m s) (top_region m.windows)
+      places =
+          let end = beside-end held store managers m s b in
+          let slots = slots-less held store managers (end_slots m s) end (top_region m.windows) in
+          let fields = fields-less held store managers (end_slots m s) end (without_top m.windows) (top_region m.windows) in
+          omega (arith, slots, fields)
+
   owns : (v : Val) → leads_to held v ≡ true → owns_or_nil m v ≡ true → owns_or_nil f v ≡ true
   owns v l e = owns-over held store managers m b v l ∙ e
 
@@ -413,26 +460,26 @@ module _ (held : ℕ → Truth) (store : List Seen) (managers : List Manager) (m
       ap not (any-over held store managers m b (is_closed f) (is_closed m) stack (is-closed-over held store managers m b) a) ∙ e
 
   -- a value may be written into the object to which another leads
-  put-more : (k : ℕ) (v r : Val) → leads_to held v ≡ true → leads_to held r ≡ true
+  put-more : (at : Seen → ℕ) (v r : Val) → leads_to held v ≡ true → leads_to held r ≡ true
       → elim (object_at m.store r) [
-        | Ok o ↦ is_field m k o && not (is_closed m (field_of o k)) && may_stand m o.label v
+        | Ok o ↦ is_field m (at o) o && not (is_closed m (field_of o (at o))) && may_stand m o.label v
         | Err t ↦ false
       ] ≡ true
       → elim (object_at store r) [
-        | Ok o ↦ is_field f k o && not (is_closed f (field_of o k)) && may_stand f o.label v
+        | Ok o ↦ is_field f (at o) o && not (is_closed f (field_of o (at o))) && may_stand f o.label v
         | Err t ↦ false
       ] ≡ true
-  put-more k v r l h e = ap (λ (q : Result Seen Trap). elim q [
-    | Ok o ↦ is_field f k o && not (is_closed f (field_of o k)) && may_stand f o.label v
+  put-more at v r l h e = ap (λ (q : Result Seen Trap). elim q [
+    | Ok o ↦ is_field f (at o) o && not (is_closed f (field_of o (at o))) && may_stand f o.label v
     | Err t ↦ false
   ]) (object-over held store managers m b r h) ∙ by (object_at m.store r) refl e
     where
       by : (q : Result Seen Trap) → object_at m.store r ≡ q
-          → elim q [ Ok o ↦ is_field m k o && not (is_closed m (field_of o k)) && may_stand m o.label v | Err t ↦ false ] ≡ true
-          → elim q [ Ok o ↦ is_field f k o && not (is_closed f (field_of o k)) && may_stand f o.label v | Err t ↦ false ] ≡ true
-      by (Ok o) at e = and-more _ _ _ _ e (λ e. and-more _ _ _ _ e (field-may k o)
-          (shut (field_of o k) (object-leads held store managers m b r o k h at))) (λ e. stand-over held store managers m b o.label v l ∙ e)
-      by (Err t) at e = off e
+          → elim q [ Ok o ↦ is_field m (at o) o && not (is_closed m (field_of o (at o))) && may_stand m o.label v | Err t ↦ false ] ≡ true
+          → elim q [ Ok o ↦ is_field f (at o) o && not (is_closed f (field_of o (at o))) && may_stand f o.label v | Err t ↦ false ] ≡ true
+      by (Ok o) there e = and-more _ _ _ _ e (λ e. and-more _ _ _ _ e (field-may (at o) o)
+          (shut (field_of o (at o)) (object-leads held store managers m b r o (at o) h there))) (λ e. stand-over held store managers m b o.label v l ∙ e)
+      by (Err t) there e = off e
 
   -- the result of a frame, or one that nobody takes
   gone-more : (stack : List Val) → AllLead held stack → of_top stack (λ v rest. is_empty rest && owned_once m && loose m v) ≡ true
@@ -448,11 +495,7 @@ module _ (held : ℕ → Truth) (store : List Seen) (managers : List Manager) (m
   whole-more s stack a e = and-more _ _ _ _ e (λ e. and-more _ _ _ _ e (stack-shut stack a) once) (slot-owns s)
 
   -- the topmost window may end
-  leave-more : (s : ℕ) (stack : List Val)
-      → (is_empty stack && owned_once m && temps_may_go (end_slots m s) && owner_leads (end_slots m s)
-      && nat_le (place_of m.frames s) (top_base m.windows)) ≡ true
-      → (is_empty stack && owned_once f && temps_may_go (end_slots f s) && owner_leads (end_slots f s)
-      && nat_le (place_of m.frames s) (top_base m.windows)) ≡ true
+  leave-more : (s : ℕ) (stack : List Val) → may_leave stack m s ≡ true → may_leave stack f s ≡ true
   leave-more s stack e =
       let below = nat_le (place_of m.frames s) (top_base m.windows) in
       and-more (is_empty stack && owned_once m && temps_may_go (end_slots m s) && owner_leads (end_slots m s)) below
@@ -460,6 +503,12 @@ module _ (held : ℕ → Truth) (store : List Seen) (managers : List Manager) (m
       (λ e. and-more _ _ _ _ e (λ e. and-more _ _ _ _ e (λ e. and-more _ _ _ _ e (λ e. e) once)
       (temps-over held store managers (end_slots m s) (beside-end held store managers m s b)))
       (leads-over held store managers (end_slots m s) (beside-end held store managers m s b))) (λ e. e)
+
+  -- what is given lies where it lay
+  into-more : (s : ℕ) → (is_nil_value (slot_at m s) || is_into m.store (top_region m.windows) (slot_at m s)) ≡ true
+      → (is_nil_value (slot_at m s) || is_into store (top_region m.windows) (slot_at m s)) ≡ true
+  into-more s e = ap (λ t. is_nil_value (slot_at m s) || t)
+      (into-over held store managers m b (top_region m.windows) (slot_at m s) (slot-leads held store managers m b s)) ∙ e
 
   needs-over : (code : Code) (o : Op) (stack : List Val) → AllLead held stack → needs code o stack m ≡ true → needs code o stack f ≡ true
   needs-over code (i.Clear s) stack a e = and-more _ _ _ _ e once (clear-more s stack a)
@@ -471,7 +520,7 @@ module _ (held : ℕ → Truth) (store : List Seen) (managers : List Manager) (m
       top-more stack _ _ a e (λ v rest l a e. object-more v _ _ l e (λ o h e. and-more _ _ _ _ e (λ e. e) (shut v l)))
   needs-over code (i.JumpFalse t) stack a e = top-more stack _ _ a e (λ v rest l a e. shut v l e)
   needs-over code (i.Put k) stack a e = top-more stack _ _ a e (λ v rest l a e. top-more rest _ _ a e
-      (λ r under h a e. and-more _ _ _ _ e (λ e. e) (put-more k v r l h)))
+      (λ r under h a e. and-more _ _ _ _ e (λ e. e) (put-more (λ o. k) v r l h)))
   needs-over code (i.Swap s k) stack a e = top-more stack _ _ a e (λ r rest l a e. and-more _ _ _ _ e (λ e. e)
       (λ e. object-more r _ _ l e (λ o h e. and-more _ _ _ _ e (λ e. and-more _ _ _ _ e
       (λ e. and-more _ _ _ _ e once (field-may k o)) (owns (field_of o k) (h k))) (slot-owns s))))
@@ -489,6 +538,17 @@ module _ (held : ℕ → Truth) (store : List Seen) (managers : List Manager) (m
   needs-over code i.Print stack a e = top-more stack _ _ a e (λ v rest l a e. and-more _ _ _ _ e (λ e. e) (shut v l))
   needs-over code i.Pop stack a e = gone-more stack a e
   needs-over code i.Drop stack a e = gone-more stack a e
+  needs-over code (i.NewArray c) stack a e = top-more stack _ _ a e (λ v rest l a e. and-more _ _ _ _ e (λ e. e) (shut v l))
+  needs-over code (i.NewTmpArray c) stack a e = top-more stack _ _ a e (λ v rest l a e. and-more _ _ _ _ e (λ e. e) (shut v l))
+  needs-over code (i.NewIsoArray c g) stack a e = top-more stack _ _ a e (λ v rest l a e. and-more _ _ _ _ e (λ e. e) (shut v l))
+  needs-over code i.Size stack a e = top-more stack _ _ a e (λ v rest l a e. shut v l e)
+  needs-over code i.Element stack a e = top-more stack _ _ a e (λ v rest l a e. top-more rest _ _ a e
+      (λ r under h a e. and-more _ _ _ _ e (λ e. and-more _ _ _ _ e (shut v l) (shut r h)) (λ e. object-more r _ _ h e (λ o k e. e))))
+  needs-over code i.PutElement stack a e = top-more stack _ _ a e (λ v rest l a e. top-more rest _ _ a e
+      (λ x below k a e. top-more below _ _ a e (λ r under h a e. and-more _ _ _ _ e
+      (λ e. and-more _ _ _ _ e (λ e. e) (shut x k)) (put-more (λ o. place_named o x) v r l h))))
+  needs-over code (i.LeaveGiving v s) stack a e = and-more _ _ _ _ e (λ e. and-more _ _ _ _ e (leave-more s stack) (into-more v))
+      (seen-more s)
   needs-over code _ stack a e = e
 
 -- what the two share

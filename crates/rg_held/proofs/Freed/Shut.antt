@@ -1,8 +1,8 @@
 -- The regions that end with an instruction are closed: what a slot gives up, what a window's temporaries own, and all beneath these.
-use Rattle.std.proofs.Common.{◌≡◌, ℕ, true, false, not, Bool as Truth, inl, inr, List, [], ◌∷◌, length, drop, filter, Option, Some, None, Result}
+use Rattle.std.proofs.Common.{◌≡◌, ℕ, true, false, not, Bool as Truth, inl, inr, List, [], ◌∷◌, length, drop, Option, Some, None, Result}
 use Rattle.std.proofs.Common.{Ok, Err, refl, sym, ap, subst, ◌∙◌, slice_get}
 use Rattle.std.proofs.lemmas.Option.{same_Some}
-use Rattle.std.specs.Prelude.{flat_map, ok_or, ◌||◌, ◌&&◌}
+use Rattle.std.specs.Prelude.{ok_or, ◌||◌, ◌&&◌}
 use Rattle.std.specs.List.{list_any}
 use Rattle.rg_base.specs.declared.object.Seen.{Seen}
 use Rattle.rg_base.specs.declared.outcome.Trap.{Trap}
@@ -11,21 +11,22 @@ use Rattle.rg_base.specs.declared.value.Val.{Val}
 use Rattle.rg_base.specs.declared.value.Val.TheVariants as val
 use Rattle.rg_rules.specs.Evaluation.{object_at}
 use Rattle.rg_rules.specs.Regions.{region_of}
-use Rattle.rg_sound.proofs.Stores.Member.{In, in-split}
+use Rattle.rg_sound.proofs.Stores.Member.{In}
 use Rattle.rg_code.specs.declared.op.Op.{Op}
 use Rattle.rg_code.specs.declared.op.Op.TheVariants as i
 use Rattle.rg_code.specs.Code.{Code}
 use Rattle.rg_stack.specs.Machine.{Window, Machine, slot_at, top_slots}
 use Rattle.rg_stack.specs.Effects.{beneath_by_labels}
-use Rattle.rg_stack.specs.Needs.{is_closed, is_top_temp, closed_into, owned_once, owns_or_nil, needs}
+use Rattle.rg_stack.specs.Needs.{is_closed, closed_into, owned_once, owns_or_nil, needs}
 use Rattle.rg_stack.specs.Labels.{is_open}
 use Rattle.rg_stack.proofs.Basics.{none-some, and-right}
-use Rattle.rg_held.specs.Frees.{Given, given_up, regions_freed, closed_among, closed_by_temps, left_with, window_that_ends, top_value}
+use Rattle.rg_held.specs.Frees.{Given, given_up, regions_freed, closed_among, window_that_ends, top_value}
 use Rattle.rg_held.specs.Part.{Part}
 use Rattle.rg_held.proofs.Lists.{off}
 use Rattle.rg_held.proofs.Places.{closed-back}
 use Rattle.rg_held.proofs.Parts.Burial.{freed-closed}
 use Rattle.rg_held.proofs.Acts.Release.{given-back}
+use Rattle.rg_held.proofs.Acts.Leave.{closed-given}
 use Rattle.rg_held.proofs.Acts.Consume.{closed-region}
 use Rattle.rg_held.proofs.Walks.Less.{Test}
 use Rattle.rg_held.proofs.Walks.Walk.{PassesTest}
@@ -79,21 +80,6 @@ none-open ws (r ∷ rs) h =
 among-shut : (m : Machine) (vs : List Val) → AllShut m.windows (closed_among m vs)
 among-shut m vs r i = let h = given-back (closed_into m) vs r i in (closed-back m h.1.0 r h.1.2).closed
 
-temps-shut : (m : Machine) (os : List Seen) → AllShut m.windows (flat_map (λ (o : Seen). closed_among m o.fields) os)
-temps-shut m [] r i = absurd i
-temps-shut m (o ∷ os) r i =
-    elim (in-split (closed_among m o.fields) (flat_map (λ (u : Seen). closed_among m u.fields) os) r i) [
-      | inl here ↦ among-shut m o.fields r here
-      | inr there ↦ temps-shut m os r there
-    ]
-
-left-shut : (m : Machine) (s : ℕ) (n : Option ℕ) → AllShut m.windows (left_with m s n).regions
-left-shut m s None r i = among-shut m (drop s (top_slots m.frames)) r i
-left-shut m s (Some n) r i = elim (in-split (closed_among m (drop s (top_slots m.frames))) (closed_by_temps m) r i) [
-  | inl here ↦ among-shut m (drop s (top_slots m.frames)) r here
-  | inr there ↦ temps-shut m (filter (λ (o : Seen). is_top_temp m o.label) m.store) r there
-]
-
 -- an object to which a value leads stands in the store
 pub object-there : (store : List Seen) (v : Val) (o : Seen) → object_at store v ≡ Ok o
     → (a : ℕ) × (v ≡ val.Obj a) × (slice_get store a ≡ Some o)
@@ -140,7 +126,8 @@ module _ (held : ℕ → Truth) (owners : List Val) (f m : Machine) (stack : Lis
       slot-shut false s (and-right (not (list_any (is_closed f) st) && owned_once f) (owns_or_nil f (slot_at f s)) n)
   ended-shut code i.Ret st n = beneath-shut _ (among-shut f (top_slots f.frames))
   ended-shut code i.RetVoid st n = beneath-shut _ (among-shut f (top_slots f.frames))
-  ended-shut code (i.Leave s) st n = beneath-shut _ (left-shut f s (window_that_ends f.windows))
+  ended-shut code (i.Leave s) st n = beneath-shut _ (closed-given f s (window_that_ends f.windows))
+  ended-shut code (i.LeaveGiving v s) st n = beneath-shut _ (closed-given f s (window_that_ends f.windows))
   ended-shut code (i.End s) st n = beneath-shut _ (among-shut f (drop s (top_slots f.frames)))
   ended-shut code i.Pop st n = beneath-shut _ (among-shut f (top_value st))
   ended-shut code i.Drop st n = beneath-shut _ (among-shut f (top_value st))

@@ -19,15 +19,15 @@ use Rattle.rg_base.specs.declared.value.Val.TheVariants as val
 use Rattle.rg_base.specs.declared.words.Manager.{Manager}
 use Rattle.rg_base.specs.declared.words.Manager.TheVariants.{Arena}
 use Rattle.rg_tree.specs.declared.rows.BinOp.TheVariants as op
-use Rattle.rg_rules.specs.Evaluation.{object_at}
+use Rattle.rg_rules.specs.Evaluation.{object_at, element_place}
 use Rattle.rg_rules.specs.Regions.{region_of}
 use Rattle.rg_rules.specs.Values.{as_bool}
 use Rattle.rg_sound.proofs.LocalRoots.{label-region}
 use Rattle.rg_code.specs.declared.op.Op.{Op}
 use Rattle.rg_code.specs.declared.op.Op.TheVariants as i
 use Rattle.rg_code.specs.Code.{Code}
-use Rattle.rg_stack.specs.Machine.{Window, slot_at, place_of}
-use Rattle.rg_stack.specs.Effects.{Work, Walked, Traps, Stuck, Go}
+use Rattle.rg_stack.specs.Machine.{Window, slot_at, place_of, Machine}
+use Rattle.rg_stack.specs.Effects.{Work, Walked, Traps, Stuck, Go, put_element, place_named, top_owner, left, put_at}
 use Rattle.rg_stack.specs.Effects.{entered, relabel, without_top, top_region, with_store, put_in, stored}
 use Rattle.rg_stack.specs.Needs.{needs}
 use Rattle.rg_stack.specs.Labels.{is_open}
@@ -43,6 +43,8 @@ use Rattle.rg_held.proofs.Freed.Windows.{numbered-more, number-new, opened-on, w
 use Rattle.rg_held.proofs.Freed.Windows.{that-ends, left-temps}
 use Rattle.rg_held.proofs.Freed.Fates.{IsGiven, Since, since-put, since-made, since-moved, since-windows, since-buried}
 use Rattle.rg_held.proofs.Freed.Shut.{AllShut, all-shut, object-there, region_in, ended_with, shut}
+use Rattle.rg_rules.specs.RightSides.{array_size}
+use Rattle.rg_base.specs.declared.object.Place.TheVariants as place
 
 temp-apart : (n r : ℕ) → Temp n ≢ Region r
 temp-apart n r e = region-not r n (sym e)
@@ -167,6 +169,23 @@ module _ (old : List Seen) (was : Label) where
   now-put w r k v now =
       since-put old was w.machine.store w.machine.windows w.machine.windows_made (length w.machine.managers) r k v now
 
+  now-element : (w : Work) (r x v : Val) → Now w → Now (with_store w (put_element w.machine.store r x v))
+  now-element w r x v now = by (object_at w.machine.store r)
+    where
+      by : (o : Result Seen Trap) → Now (with_store w (elim o [
+        | Ok o ↦ put_in w.machine.store r (place_named o x) v
+        | Err t ↦ w.machine.store
+      ]))
+      by (Ok o) = now-put w r (place_named o x) v now
+      by (Err t) = now
+
+  -- a value goes to a place
+  now-placed : (o : Option Place) (v : Val) (m : Machine) → Since old was m.store m.windows m.windows_made (length m.managers)
+      → Since old was (put_at o v m).store (put_at o v m).windows (put_at o v m).windows_made (length (put_at o v m).managers)
+  now-placed None v m since = since
+  now-placed (Some (place.Var n s)) v m since = since
+  now-placed (Some (place.Field a k)) v m since = since-put old was m.store m.windows m.windows_made (length m.managers) (val.Obj a) k v since
+
   module _ (code : Code) where
     on-act : (at : ℕ) (o : Op) (go : Go) (stack : List Val) (w : Work) → Onward Now (Ending Now) go → shut o stack w.machine ≡ true → Now w
         → Ending Now (free_act code at o go stack w)
@@ -227,6 +246,22 @@ module _ (old : List Seen) (was : Label) where
     on-act at i.Pop go stack w h t now = on-top kept stack _ (λ v rest. h 0 _ _ (now-freed w _ refl t now))
     on-act at i.Drop go stack w h t now = on-top kept stack _ (λ v rest. h 0 _ _ (now-freed w _ refl t now))
     on-act at i.Halt go stack w h t now = now
+    on-act at (i.NewArray c) go stack w h t now = on-top kept stack _ (λ v rest. on-object kept (array_size v) _
+        (λ n is. h 0 _ _ (now-made w _ (top-apart w.machine.windows now.some_window) now)))
+    on-act at (i.NewTmpArray c) go stack w h t now = on-top kept stack _ (λ v rest. on-object kept (array_size v) _
+        (λ n is. h 0 _ _ (now-made w _ (λ r closed. temp-apart _ r) now)))
+    on-act at (i.NewIsoArray c m) go stack w h t now = on-top kept stack _ (λ v rest. on-object kept (array_size v) _
+        (λ n is. h 0 _ _ (now-region w m _ refl now)))
+    on-act at i.Size go stack w h t now = on-top kept stack _ (λ v rest. on-object kept (object_at w.machine.store v) _ (λ o e. h 0 _ _ now))
+    on-act at i.Bound go stack w h t now = on-top kept stack _ (λ v rest. on-top kept rest _ (λ r under.
+        on-object kept (object_at w.machine.store r) _ (λ o e. on-object kept (element_place o v) _ (λ k there. h 0 _ _ now))))
+    on-act at i.Element go stack w h t now = on-top kept stack _ (λ v rest. on-top kept rest _ (λ r under. h 0 _ _ now))
+    on-act at i.PutElement go stack w h t now = on-top kept stack _ (λ v rest. on-top kept rest _ (λ x below. on-top kept below _ (λ r under.
+        h 0 _ _ (now-element w r x v now))))
+    on-act at (i.LeaveGiving v s) go stack w h t now =
+        let x = freed (given_up (i.LeaveGiving v s) stack w.machine) w in
+        on-object kept (object_at x.machine.store (slot_at x.machine v)) _ (λ o e.
+        h 0 _ _ (now-placed (top_owner x.machine.windows) (slot_at x.machine v) (left x.machine s) (now-ended w s t now)))
     on-act at _ go stack w h t now = h 0 _ _ now
 
     on-shut : (n : Truth) (t : Truth) (x : Walked) → (t ≡ true → Ending Now x) → Ending Now (if n then (if t then x else Stuck) else Stuck)

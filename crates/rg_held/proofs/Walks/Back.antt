@@ -1,7 +1,7 @@
 -- What a walk returns to is where the topmost frame goes back to, and behind that nothing is refused.
-use Rattle.std.proofs.Common.{◌≡◌, ℕ, ◌+◌, ◌-◌, true, false, List, [], ◌∷◌, length, Option, Some, None}
+use Rattle.std.proofs.Common.{◌≡◌, ℕ, ◌+◌, ◌-◌, Bool as Truth, true, false, List, [], ◌∷◌, length, Option, Some, None, slice_set, ◌==◌}
 use Rattle.std.proofs.Common.{unwrap_or, drop, slice_get}
-use Rattle.std.specs.Prelude.{nat_lt, neg_ℤ}
+use Rattle.std.specs.Prelude.{nat_lt, neg_ℤ, if◌then◌else◌}
 use Rattle.rg_base.specs.declared.limits.TheConstants.{FRAMES}
 use Rattle.rg_base.specs.declared.object.Label.TheVariants.{Region, Frozen}
 use Rattle.rg_base.specs.declared.object.Place.{Place}
@@ -10,20 +10,22 @@ use Rattle.rg_base.specs.Input.{next_number}
 use Rattle.rg_base.specs.declared.value.Val.{Val}
 use Rattle.rg_base.specs.declared.value.Val.TheVariants as val
 use Rattle.rg_tree.specs.declared.rows.BinOp.TheVariants as op
-use Rattle.rg_rules.specs.Evaluation.{object_at}
+use Rattle.rg_rules.specs.Evaluation.{object_at, element_place}
 use Rattle.rg_rules.specs.Regions.{region_of}
 use Rattle.rg_rules.specs.Values.{as_int, as_bool, number_value}
 use Rattle.rg_code.specs.declared.code.Entry.{Entry}
 use Rattle.rg_code.specs.declared.op.Op.{Op}
 use Rattle.rg_code.specs.declared.op.Op.TheVariants as i
 use Rattle.rg_code.specs.Code.{Code}
-use Rattle.rg_stack.specs.Machine.{Frame, with_slots, slot_at, slots_below}
-use Rattle.rg_stack.specs.Effects.{Work, Walked, Stops, Returns, Traps, Stuck, Go, act, with_store, stored, put_in}
+use Rattle.rg_stack.specs.Machine.{Frame, with_slots, slot_at, slots_below, put_in_frame, Machine}
+use Rattle.rg_stack.specs.Effects.{Work, Walked, Stops, Returns, Traps, Stuck, Go, act, with_store, stored, put_in, put_element, top_owner, left}
+use Rattle.rg_stack.specs.Effects.{put_at}
 use Rattle.rg_stack.specs.Effects.{address, relabel, top_region, frame_number, entered, begins_by, returned, called}
 use Rattle.rg_stack.specs.Needs.{needs}
 use Rattle.rg_stack.specs.Given.{given_act, given_walk}
 use Rattle.rg_stack.specs.Refusals.{calm, CalmBehind}
 use Rattle.rg_held.proofs.Walks.Keep.{Kept, Onward, on-top, on-object, on-test, on-pushed, on-two, on-number, on-opened, on-walk}
+use Rattle.rg_rules.specs.RightSides.{array_size}
 
 -- behind the end of the frame that a walk ends nothing is refused
 abbrev pub Back : List Op → Walked → Type 0
@@ -58,6 +60,27 @@ module _ (code : List Op) where
   returned-back w [] stack h = tt
   returned-back w (f ∷ []) stack h = tt
   returned-back w (f ∷ g ∷ fs) stack h = on-test (kept code) (begins_by w.machine.windows (slots_below (g ∷ fs))) _ Stuck h tt
+
+-- a value that goes to a place leaves where frames go back to
+frame-behind : (code : List Op) (n s : ℕ) (v : Val) (fs : List Frame) → CalmBehind code fs → CalmBehind code (put_in_frame n s v fs)
+frame-behind code n s v [] h = tt
+frame-behind code n s v (f ∷ []) h = by (0 == n)
+  where
+    by : (b : Truth) → CalmBehind code (if b then record f { slots = slice_set f.slots s v } ∷ [] else f ∷ [])
+    by true = tt
+    by false = tt
+frame-behind code n s v (f ∷ g ∷ fs) h = by (length (g ∷ fs) == n) (length fs == n)
+  where
+    by : (b c : Truth) → CalmBehind code (if b then record f { slots = slice_set f.slots s v } ∷ g ∷ fs
+        else f ∷ (if c then record g { slots = slice_set g.slots s v } ∷ fs else g ∷ put_in_frame n s v fs))
+    by true c = h
+    by false true = h
+    by false false = h
+
+placed-behind : (code : List Op) (o : Option Place) (v : Val) (m : Machine) → CalmBehind code m.frames → CalmBehind code (put_at o v m).frames
+placed-behind code None v m h = h
+placed-behind code (Some (place.Var n s)) v m h = frame-behind code n s v m.frames h
+placed-behind code (Some (place.Field a k)) v m h = h
 
 module _ (code : Code) where
   keeps : Kept (Calm code.ops) (Back code.ops)
@@ -134,6 +157,19 @@ module _ (code : Code) where
   act-back at i.Pop go stack w next h = on-top keeps stack _ (λ v rest. next 0 rest w h)
   act-back at i.Drop go stack w next h = on-top keeps stack _ (λ v rest. next 0 rest w h)
   act-back at i.Halt go stack w next h = tt
+  act-back at (i.NewArray c) go stack w next h = on-top keeps stack _ (λ v rest. on-object keeps (array_size v) _ (λ n is. next 0 _ _ h))
+  act-back at (i.NewTmpArray c) go stack w next h = on-top keeps stack _ (λ v rest. on-object keeps (array_size v) _ (λ n is. next 0 _ _ h))
+  act-back at (i.NewIsoArray c m) go stack w next h = on-top keeps stack _ (λ v rest. on-object keeps (array_size v) _ (λ n is. next 0 _ _ h))
+  act-back at i.Size go stack w next h =
+      on-top keeps stack _ (λ v rest. on-object keeps (object_at w.machine.store v) _ (λ o is. next 0 _ w h))
+  act-back at i.Bound go stack w next h = on-top keeps stack _ (λ v rest. on-top keeps rest _ (λ r under.
+      on-object keeps (object_at w.machine.store r) _ (λ o is. on-object keeps (element_place o v) _ (λ k there. next 0 stack w h))))
+  act-back at i.Element go stack w next h = on-top keeps stack _ (λ v rest. on-top keeps rest _ (λ r under. next 0 _ w h))
+  act-back at i.PutElement go stack w next h = on-top keeps stack _ (λ v rest. on-top keeps rest _ (λ x below. on-top keeps below _ (λ r under.
+      next 0 under (with_store w (put_element w.machine.store r x v)) h)))
+  act-back at (i.LeaveGiving v s) go stack w next h = on-object keeps (object_at w.machine.store (slot_at w.machine v)) _ (λ o is.
+      next 0 stack _ (placed-behind code.ops (top_owner w.machine.windows) (slot_at w.machine v) (left w.machine s)
+      (slots-behind code.ops _ w.machine.frames h)))
   act-back at _ go stack w next h = next 0 _ w h
 
   given-back : (at : ℕ) (o : Op) (go : Go) (stack : List Val) (w : Work) → Onward (Calm code.ops) (Back code.ops) go → Calm code.ops w

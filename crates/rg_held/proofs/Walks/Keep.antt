@@ -2,7 +2,6 @@
 use Rattle.std.proofs.Common.{◌≡◌, ℕ, zero, suc, ◌+◌, true, false, Bool as Truth, if◌then◌else◌, List, [], ◌∷◌, Result, Ok, Err, refl, length, Option, Some, None}
 use Rattle.std.specs.Prelude.{nat_lt}
 use Rattle.rg_base.specs.Input.{NextNumber, found, malformed, at_end}
-use Rattle.rg_base.specs.declared.object.Seen.{Seen}
 use Rattle.rg_base.specs.declared.outcome.Trap.{Trap}
 use Rattle.rg_base.specs.declared.outcome.Trap.TheVariants as trap
 use Rattle.rg_base.specs.declared.value.Val.{Val}
@@ -37,7 +36,7 @@ module _ {Now : Work → Type 0} {Ending : Walked → Type 0} (k : Kept Now Endi
   on-top [] go h = k.stuck
   on-top (v ∷ rest) go h = h v rest
 
-  pub on-object : (r : Result Seen Trap) (go : Seen → Walked) → ((o : Seen) → r ≡ Ok o → Ending (go o))
+  pub on-object : {A : Type 0} (r : Result A Trap) (go : A → Walked) → ((o : A) → r ≡ Ok o → Ending (go o))
       → Ending (elim r [ Ok o ↦ go o | Err t ↦ Traps t ])
   on-object (Ok o) go h = h o refl
   on-object (Err t) go h = k.traps t

@@ -2,13 +2,15 @@
 -- lowering").
 use Rattle.std.specs.Prelude.{◌≡◌, ℕ, ◌+◌, ◌<◌, ◌^◌, List, [], ◌∷◌, ◌++◌, All, length, Option, None, Some}
 use Rattle.rg_tree.specs.declared.rows.BinOp.{BinOp}
-use Rattle.rg_tree.specs.Tree.{Name, Variable, Expr, Class}
+use Rattle.rg_tree.specs.Tree.{Name, Variable, Path, Expr, Class}
 use Rattle.rg_rules.specs.Types.{method_named, method_result}
 use Rattle.rg_names.specs.declared.entry.Sig.{Sig}
 use Rattle.rg_names.specs.declared.entry.FieldAt.{FieldAt}
 use Rattle.rg_code.specs.declared.op.Op.{Op}
+use Rattle.rg_code.specs.declared.op.Op.TheVariants as i
 use Rattle.rg_code.specs.Code.{Code}
-use Rattle.rg_code.specs.Lowering.{Scope, above, expr_code, gap, operator_code, number_called, holder_code, held_number, type_along, type_in}
+use Rattle.rg_code.specs.Lowering.{Scope, above, path_code, expr_code, gap, operator_code, number_called, holder_code, held_number}
+use Rattle.rg_code.specs.Lowering.{type_along, type_in}
 
 -- the code with these instructions behind it
 abbrev pub with_ops : Code → List Op → Code
@@ -24,6 +26,12 @@ behind_code classes scope at o b =
     let middle = at + gap o in
     let right = expr_code classes scope middle b in
     operator_code o (middle + length right) right
+
+-- the array of `q[e]` and its index, both tested
+abbrev pub index_code : List Class → Scope → (at : ℕ) → Path → (index : Expr) → List Op
+index_code classes scope at q e =
+    let array = path_code classes scope q.base q.fields ++ i.Check ∷ [] in
+    array ++ (expr_code classes scope (at + length array) e ++ i.Bound ∷ [])
 
 -- the method of a name that is called in the class of a number
 abbrev pub CalleeIs : List Class → (c : ℕ) → Name → Option Sig → Type 0

@@ -5,7 +5,7 @@ use Rattle.rg_tree.specs.Rows.Tables.{Tables, name_at, numbers_in}
 use Rattle.rg_tree.specs.Rows.RowTrees as rows
 use Rattle.rg_code.specs.declared.op.Op.{Op}
 use Rattle.rg_code.specs.Code.{Code}
-use Rattle.rg_code.specs.Lowering.{Methods, slots_of, method_code, opening_words}
+use Rattle.rg_code.specs.Lowering.{Methods, slots_of, method_code, opening_of}
 use Rattle.rg_tree.specs.declared.rows.MethodRow.{MethodRow}
 
 -- the method of a row
@@ -37,4 +37,4 @@ with_methods c m = record c { ops = c.ops ++ m.ops; entries = c.entries ++ m.ent
 
 -- the code with the openings of more classes
 abbrev pub with_openings : Code → List Class → Code
-with_openings c classes = record c { openings = c.openings ++ map (λ (k : Class). opening_words k.members) classes }
+with_openings c classes = record c { openings = c.openings ++ map (λ (k : Class). opening_of k.element k.members) classes }

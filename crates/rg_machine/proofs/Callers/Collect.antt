@@ -1,5 +1,5 @@
 -- What stands behind a collection of the active region: what its roots lead to is kept, and nothing that stays leads into a region that went.
-use Rattle.std.proofs.Common.{◌≡◌, ◌≤◌, ◌<◌, inl, inr, ℕ, ◌+◌, ◌-◌, true, drop, length}
+use Rattle.std.proofs.Common.{◌≡◌, ◌<◌, inl, inr, ℕ, ◌+◌, ◌-◌, true, drop, length}
 use Rattle.std.proofs.Common.{Option, Some, None, option_map, slice_get, refl, sym, ap, ◌∙◌, subst, arith}
 use Rattle.std.proofs.lemmas.Bool.{cases_eq, false_from_ne_true as never, cases_lt as order}
 use Rattle.std.proofs.lemmas.Option.{none-some, same_Some, slice_get_within}

@@ -1,6 +1,6 @@
 -- What callers cite: a collection by mark and sweep keeps as many objects of the active region as the state of the machine that never frees
 -- reaches in it from the topmost window's owner, its variables and its temporaries.
-use Rattle.std.proofs.Common.{◌≡◌, ℕ, ◌-◌, Bool as Truth, true, false, List, [], drop, length, map, Some, slice_get}
+use Rattle.std.proofs.Common.{◌≡◌, ℕ, Bool as Truth, true, false, List, [], drop, length, map, Some, slice_get}
 use Rattle.std.proofs.Common.{refl, sym, ap, ◌∙◌, subst, arith}
 use Rattle.std.proofs.lemmas.List.{length-map}
 use Rattle.std.proofs.lemmas.Option.{none-some, same_Some}

@@ -1,5 +1,5 @@
 -- The bridge of the active region is what the topmost window's owner leads to in the state of the machine that never frees.
-use Rattle.std.proofs.Common.{◌≡◌, ◌≢◌, ◌<◌, ◌⊎◌, inl, inr, ℕ, ◌-◌, true, if◌then◌else◌, List, [], ◌∷◌}
+use Rattle.std.proofs.Common.{◌≡◌, ◌≢◌, ◌<◌, ◌⊎◌, inl, inr, ℕ, ◌-◌, true, List, [], ◌∷◌}
 use Rattle.std.proofs.Common.{length, reverse, Option, Some, None, option_map, option_and_then, option_to_list, slice_get, refl, sym, ap, ◌∙◌, subst}
 use Rattle.std.proofs.Common.{arith}
 use Rattle.std.proofs.lemmas.Bool.{cases_eq}

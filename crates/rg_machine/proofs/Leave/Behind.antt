@@ -64,13 +64,13 @@ module _ (v : Stack) (many : length v.marks ≡ length v.windows) (two : 2 ≤ l
   last = length v.windows - 1
 
   -- a window stays, but for the topmost one
-  window-was : (i : ℕ) (w : WindowRow) → IsWindow (left v) i w → IsWindow v i w × (i < last)
+  pub window-was : (i : ℕ) (w : WindowRow) → IsWindow (left v) i w → IsWindow v i w × (i < last)
   window-was i w e =
       let lt = slice_get_within (take last v.windows) i w e in
       let n = length-take-le last v.windows (omega arith) in
       (get-take last i v.windows w e, omega (arith, lt, n))
 
-  window-stays : (i : ℕ) (w : WindowRow) → IsWindow v i w → i < last → IsWindow (left v) i w
+  pub window-stays : (i : ℕ) (w : WindowRow) → IsWindow v i w → i < last → IsWindow (left v) i w
   window-stays i w e lt = get-take-within last v.windows i lt ∙ e
 
   -- where the temporaries of one that stays begin and end
@@ -107,10 +107,10 @@ module _ (v : Stack) (many : length v.marks ≡ length v.windows) (two : 2 ≤ l
       ∙ ap (drop (slice_index_or v.marks i 0)) front
       ∙ ap (λ k. drop (slice_index_or v.marks i 0) (take k v.temps)) (sym any)
 
-  temp-was : (i x : ℕ) → i < last → IsTempOf (left v) i x → IsTempOf v i x
+  pub temp-was : (i x : ℕ) → i < last → IsTempOf (left v) i x → IsTempOf v i x
   temp-was i x lt t = (t.0, sym (ap (λ xs. slice_get xs t.0) (range-same i lt)) ∙ t.1)
 
-  temp-stays : (i x : ℕ) → i < last → IsTempOf v i x → IsTempOf (left v) i x
+  pub temp-stays : (i x : ℕ) → i < last → IsTempOf v i x → IsTempOf (left v) i x
   temp-stays i x lt t = (t.0, ap (λ xs. slice_get xs t.0) (range-same i lt) ∙ t.1)
 
 module _ (old : Parts) (v : Stack) (at : ℕ) (q : Serials old.cells.heap) (g : Grove old.cells old.regions) (s : Stands old v) (new : Parts)

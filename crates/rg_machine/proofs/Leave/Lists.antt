@@ -46,7 +46,7 @@ seen-was regions store a h e = by (slice_get store a) refl (sym (slice_get-map (
             let same : o ≡ h = sym (seen-same regions o i) ∙ is in
             inr (f ∙ ap Some same, sym (ap (λ (x : Seen). in_regions regions x.label) same) ∙ i)
 
-seen-stays : (regions : List ℕ) (store : List Seen) (a : ℕ) (h : Seen) → slice_get store a ≡ Some h → in_regions regions h.label ≡ false
+pub seen-stays : (regions : List ℕ) (store : List Seen) (a : ℕ) (h : Seen) → slice_get store a ≡ Some h → in_regions regions h.label ≡ false
     → slice_get (bury regions None store) a ≡ Some h
 seen-stays regions store a h e i =
     slice_get-map (buried regions None) store a ∙ ap (option_map (buried regions None)) e ∙ ap Some (seen-same regions h i)
@@ -267,7 +267,7 @@ among-cases x r xs e = by (x == r) refl e
     by true is e = inl (eq-true x r is)
     by false is e = inr e
 
-chosen-back : (f : Val → Option ℕ) (vs : List Val) (r : ℕ) → among (filter_map f vs) r ≡ true
+pub chosen-back : (f : Val → Option ℕ) (vs : List Val) (r : ℕ) → among (filter_map f vs) r ≡ true
     → (i : ℕ) × (v : Val) × (slice_get vs i ≡ Some v) × (f v ≡ Some r)
 chosen-back f [] r e = absurd (false≢true e)
 chosen-back f (v ∷ vs) r e = by (f v) refl e (λ i. chosen-back f vs r i)

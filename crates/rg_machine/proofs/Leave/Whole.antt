@@ -17,10 +17,10 @@ use Rattle.rg_frames.specs.Stack.{IsTop, MarksLie}
 use Rattle.rg_heap.specs.Ends.{GoesAlong, IsTopTemp, Released}
 use Rattle.rg_heap.specs.Answers.{val_of}
 use Rattle.rg_stack.specs.Machine.{Frame, Machine, end_slots, ended_slots, place_of, top_slots, with_slots}
-use Rattle.rg_stack.specs.Effects.{Go, beneath_by_labels}
+use Rattle.rg_stack.specs.Effects.{Go, beneath_by_labels, left as left_in}
 use Rattle.rg_stack.specs.Needs.{is_empty, owned_once, owner_leads, temps_may_go, top_base}
 use Rattle.rg_stack.proofs.Callers.List.{empty-is}
-use Rattle.rg_held.specs.Frees.{closed_among, closed_by_temps, free_act, window_that_ends}
+use Rattle.rg_held.specs.Frees.{closed_among, closed_by_temps, free_act, freed, left_with, window_that_ends}
 use Rattle.rg_view.specs.Links.{Spans}
 use Rattle.rg_view.specs.View.{machine_of, values_of}
 use Rattle.rg_view.proofs.Callers.Gone.Beneath.{beneath-spans}
@@ -98,16 +98,23 @@ module _ (p mid : Parts) (s : ℕ) (q : Serials p.heap.cells.heap) (g : Grove p.
       let le = le-back (place_of m.frames s) (top_base m.windows) needs-parts.2 in
       ends-behind mid.heap mid.frames mid.at h1 s (top_slots m.frames) (ap top_slots frames ∙ top-ended m.frames s) (omega (arith, base, place, le))
 
+  -- nothing is on the stack
+  pub whole-stack : (new : Parts) → new.words ≡ mid.words → (core_of p).stack ≡ (core_of new).stack
+  whole-stack new words =
+      let c = core_of p in
+      let empty_mid : (core_of mid).stack ≡ [] = ap (λ (c : Core). c.stack) e ∙ empty-is c.stack needs-parts.0 in
+      let no_words : new.words ≡ [] = words ∙ empty-words mid.heap.cells.heap mid.words (ap length empty_mid) in
+      empty-is c.stack needs-parts.0 ∙ sym (ap (values_of new.heap.cells.heap) no_words)
+
   module _ (new : Parts) (gn : Grove new.heap.cells new.heap.regions)
       (rel : Released mid.heap new.heap (GoesAlong mid.heap mid.frames) (IsTopTemp mid.frames)) where
     pub whole-stands : Stands new.heap (left mid.frames)
     whole-stands = behind-left mid.heap mid.frames mid.at q1 g1 h1 two once lie new.heap gn rel no-slot-leads no-field-leads in-front
 
-    pub whole-effect : new.frames ≡ left mid.frames → new.words ≡ mid.words → new.at ≡ mid.at → new.printed ≡ mid.printed
-        → (code_at : ℕ) (go : Go) (input : List ℕ)
-        → free_act empty code_at (i.Leave s) go (core_of p).stack (work_of (core_of p) input)
-        ≡ go 0 (core_of new).stack (work_of (core_of new) input)
-    whole-effect frames words at printed code_at go input =
+    -- the machine behind it
+    pub whole-machine : new.frames ≡ left mid.frames → new.at ≡ mid.at → (input : List ℕ)
+        → machine_in new ≡ left_in (freed (Some (left_with m s (window_that_ends m.windows))) (work_of (core_of p) input)).machine s
+    whole-machine frames at input =
         let c = core_of p in
         let n = number mid.heap mid.frames mid.at q1 g1 h1 two once lie in
         let gone = late mid.heap mid.frames mid.at q1 g1 h1 two once lie in
@@ -118,16 +125,17 @@ module _ (p mid : Parts) (s : ℕ) (q : Serials p.heap.cells.heap) (g : Grove p.
         beneath-spans (machine_in mid).store (length (machine_in mid).managers)
         (λ a r f. region-below mid.heap.cells.heap mid.heap.regions a r q1 h1.numbers g1.labels f) (closed_by_temps (machine_in mid)) in
         let P : Machine → Type 0 = λ m. Spans m.store (closed_by_temps m) gone in
-        let one = left-machine c s n within input gone (subst P same spans) ends in
-        let two_is = ap (λ m. left_by m gone (Some n)) same in
-        let three = machine-left mid.heap mid.frames mid.at q1 g1 h1 two once lie new.heap gn rel no-slot-leads no-field-leads in-front in
-        let machine : machine_in new ≡ left_by (ending c s).machine gone (Some n) =
-        ap (λ v. machine_of new.heap v new.at) frames ∙ ap (machine_of new.heap (left mid.frames)) at ∙ three ∙ two_is in
-        let empty_mid : (core_of mid).stack ≡ [] = ap (λ (c : Core). c.stack) e ∙ empty-is c.stack needs-parts.0 in
-        let no_words : new.words ≡ [] = words ∙ empty-words mid.heap.cells.heap mid.words (ap length empty_mid) in
-        let stack : c.stack ≡ (core_of new).stack =
-        empty-is c.stack needs-parts.0 ∙ sym (ap (values_of new.heap.cells.heap) no_words) in
+        ap (λ v. machine_of new.heap v new.at) frames ∙ ap (machine_of new.heap (left mid.frames)) at
+        ∙ machine-left mid.heap mid.frames mid.at q1 g1 h1 two once lie new.heap gn rel no-slot-leads no-field-leads in-front
+        ∙ ap (λ m. left_by m gone (Some n)) same ∙ left-machine c s n within input gone (subst P same spans) ends
+
+    pub whole-effect : new.frames ≡ left mid.frames → new.words ≡ mid.words → new.at ≡ mid.at → new.printed ≡ mid.printed
+        → (code_at : ℕ) (go : Go) (input : List ℕ)
+        → free_act empty code_at (i.Leave s) go (core_of p).stack (work_of (core_of p) input)
+        ≡ go 0 (core_of new).stack (work_of (core_of new) input)
+    whole-effect frames words at printed code_at go input =
+        let c = core_of p in
         let shown : c.printed ≡ new.printed = sym (ap (λ (c : Core). c.printed) e) ∙ sym printed in
-        ap (λ m. go 0 c.stack (record { machine = m; input = input; printed = c.printed })) (sym (machine ∙ one))
-        ∙ ap (λ vs. go 0 vs (record { machine = machine_in new; input = input; printed = c.printed })) stack
+        ap (λ m. go 0 c.stack (record { machine = m; input = input; printed = c.printed })) (sym (whole-machine frames at input))
+        ∙ ap (λ vs. go 0 vs (record { machine = machine_in new; input = input; printed = c.printed })) (whole-stack new words)
         ∙ ap (λ o. go 0 (core_of new).stack (record { machine = machine_in new; input = input; printed = o })) shown

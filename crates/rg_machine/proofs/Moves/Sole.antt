@@ -34,7 +34,7 @@ use Rattle.rg_view.proofs.Callers.Need.{label-counts, places-most, weight}
 use Rattle.rg_view.proofs.Callers.Once.{count-two}
 
 -- what the slots of all frames count is what all slots do
-slots-count : (h : Heap) (store : List Seen) (r : ℕ) (slots : List Word) (first : ℕ) (fs : List FrameRow) → Nested first (length slots) fs
+pub slots-count : (h : Heap) (store : List Seen) (r : ℕ) (slots : List Word) (first : ℕ) (fs : List FrameRow) → Nested first (length slots) fs
     → slots_into store r (frames_from h slots first fs) ≡ count_by (is_into store r) (map (val_of h) slots)
 slots-count h store r [] first [] n = refl
 slots-count h store r (w ∷ ws) first [] n = absurd cc

@@ -16,7 +16,7 @@ use Rattle.rg_base.specs.declared.value.Val.TheVariants.{Nil}
 use Rattle.rg_base.specs.declared.words.Manager.TheVariants.{Arena}
 use Rattle.rg_rules.specs.Regions.{address, in_regions}
 use Rattle.rg_stack.specs.Machine.{Frame, Window, Machine, top_slots, with_slots, slot_at, put_slot, ended_slots, end_slots}
-use Rattle.rg_stack.specs.Effects.{beneath_by_labels}
+use Rattle.rg_stack.specs.Effects.{beneath_by_labels, left, without_top}
 use Rattle.rg_stack.specs.Needs.{closed_of, closed_into, slots_into, fields_into, places_into}
 use Rattle.rg_stack.specs.Labels.{is_open, label_of, lies_in, is_into, is_outside}
 use Rattle.rg_stack.specs.Needs.{all_below, owned_once, loose}
@@ -313,5 +313,13 @@ fewer-without c vs =
           omega (arith, a, b);
       closed = λ v r e. closed-buried m.windows (regions-with c vs) None m.store r v e;
     }
+
+-- nor do more into any, once the topmost window is gone
+pub fewer-left : (c : Core) (vs : List Val) (s r : ℕ) → places_into (left (without c vs).machine s) r ≤ places_into (left c.machine s) r
+fewer-left c vs s r =
+    let m = c.machine in
+    let a = slots-buried (regions-with c vs) None m.store (without_top m.windows) r (end_slots m s).frames in
+    let b = fields-buried (regions-with c vs) None m.store (without_top m.windows) r in
+    omega (arith, a, b)
 
 -- Frames go back where they did

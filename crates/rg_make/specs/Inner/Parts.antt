@@ -79,8 +79,8 @@ call_tree m = record { target = record { base = Some (codes "l"); fields = [] };
 -- a right side
 abbrev pub right_tree : right_part.Right → Right
 right_tree (right_is.Value e) = value (expr_tree e)
-right_tree (right_is.New c) = new (name_text c)
-right_tree (right_is.NewIso c m) = new_iso (name_text c) m
+right_tree (right_is.New c) = new (name_text c) None
+right_tree (right_is.NewIso c m) = new_iso (name_text c) None m
 right_tree (right_is.Call m) = result_of (call_tree m)
 
 -- what a statement says

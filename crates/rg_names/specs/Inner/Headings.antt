@@ -1,5 +1,5 @@
 -- What the parts of a class table owe while its headers are judged in source order (docs/language.md, "Headers").
-use Rattle.std.specs.Prelude.{◌≡◌, ℕ, ◌<◌, ⊤, Bool as Truth, true, List, [], ◌∷◌, length, map, reverse, Option, None, Some, Ok}
+use Rattle.std.specs.Prelude.{◌≡◌, ℕ, ◌<◌, ⊤, Bool as Truth, true, false, not, List, [], ◌∷◌, length, map, reverse, Option, None, Some, Ok}
 use Rattle.rg_base.specs.declared.words.Cap.{Cap}
 use Rattle.rg_base.specs.declared.ty.Ty.{Ty}
 use Rattle.rg_base.specs.declared.fault.Code.TheVariants.{BadType}
@@ -12,6 +12,7 @@ use Rattle.rg_tree.specs.Tree.{Name, Ty as Written, Param, Class}
 use Rattle.rg_tree.specs.Rows.Tables.{Tables, name_at}
 use Rattle.rg_tree.specs.Rows.RowsExist.{AreRows}
 use Rattle.rg_rules.specs.Answers.{◌>>=◌, ◌>>◌, test, Answer, Passed}
+use Rattle.rg_rules.specs.Capabilities.{is_iso_cap}
 use Rattle.rg_rules.specs.Headers.{suits_field, suits_receiver, param_headers, result_header}
 use Rattle.rg_names.specs.Table.{judge_type}
 use Rattle.rg_names.specs.TableOf.{heads_of}
@@ -45,6 +46,19 @@ abbrev pub judge_field : List (ℕ × Truth) → Truth → TypeRow → Answer Ty
 judge_field heads is_tmp y = do
   ty ← judge_type heads y
   test (suits_row y is_tmp) BadType
+  Ok ty
+
+-- whether a type is written `iso`
+abbrev pub is_iso_row : TypeRow → Truth
+is_iso_row row.Int = false
+is_iso_row row.Bool = false
+is_iso_row (row.Ref cap name) = is_iso_cap cap
+
+-- the type of the elements of an array class
+abbrev pub judge_element : List (ℕ × Truth) → Truth → TypeRow → Answer Ty
+judge_element heads is_tmp y = do
+  ty ← judge_field heads is_tmp y
+  test (not (is_iso_row y)) BadType
   Ok ty
 
 -- the type of a result

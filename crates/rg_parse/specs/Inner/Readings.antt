@@ -1,5 +1,5 @@
 -- What each reader of the parser reads: a form of the grammar, and a row that stands for its tree (docs/language.md, "Grammar").
-use Rattle.std.specs.Prelude.{ℕ, ◌≡◌, ⊤, List, [], ◌∷◌, length, Option, Ok, map, option_map, IfSome}
+use Rattle.std.specs.Prelude.{ℕ, ◌≡◌, ⊤, List, [], ◌∷◌, length, Option, Some, None, Ok, map, option_map, IfSome}
 use Rattle.rg_base.specs.declared.words.Cap.{Cap}
 use Rattle.rg_base.specs.declared.words.Manager.{Manager}
 use Rattle.rg_base.specs.declared.words.Sign.TheVariants as s
@@ -14,17 +14,20 @@ use Rattle.rg_tree.specs.declared.rows.MemberRow.{MemberRow}
 use Rattle.rg_tree.specs.declared.rows.ClassRow.{ClassRow}
 use Rattle.rg_tree.specs.declared.rows.Right as row_right
 use Rattle.rg_tree.specs.declared.rows.StmtKind as row_kind
-use Rattle.rg_tree.specs.Counts.{no_signs, one_param}
+use Rattle.rg_tree.specs.declared.rows.StmtKind.TheVariants as kind_row
+use Rattle.rg_tree.specs.declared.rows.ExprRow.{ExprRow}
+use Rattle.rg_tree.specs.Counts.{opened, closed, no_signs, one_param}
 use Rattle.rg_tree.specs.Tree.{Name, Variable, Path, Ty, Expr, Param, Member, stmt}
 use Rattle.rg_tree.specs.Forms as form
+use Rattle.rg_tree.specs.Forms.{Given}
 use Rattle.rg_tree.specs.Phrases.{Symbol, param_name, mark, the}
 use Rattle.rg_tree.specs.Phrases as p
 use Rattle.rg_tree.specs.Grammar.{Reads, text}
 use Rattle.rg_tree.specs.Stuck.{line_at}
 use Rattle.rg_tree.specs.Rows.Tables.{Tables, name_at, numbers_in}
-use Rattle.rg_tree.specs.Rows.RowTrees.{path_of, type_of, expr_at, call_of, right_of, stmt_at, block_of, kind_over, else_over, param_at, member_at}
-use Rattle.rg_tree.specs.Rows.RowTrees.{member_of, class_of}
-use Rattle.rg_tree.specs.Rows.RowsExist.{IsSpanBelow, IsNameIn, IsPathIn, IsTypeIn, IsCallIn, IsRightIn, IsKindIn, IsBlockIn, IsExprNumber}
+use Rattle.rg_tree.specs.Rows.RowTrees.{path_of, type_of, expr_at, expr_of, call_of, right_of, stmt_at, block_of, kind_over, else_over, param_at}
+use Rattle.rg_tree.specs.Rows.RowTrees.{member_at, member_of, members_under, class_of}
+use Rattle.rg_tree.specs.Rows.RowsExist.{IsSpanBelow, IsNameIn, IsPathIn, IsTypeIn, IsExprIn, IsCallIn, IsRightIn, IsKindIn, IsBlockIn, IsExprNumber}
 use Rattle.rg_tree.specs.Rows.RowsExist.{IsMemberIn, IsClassIn, IsStmtNumber, IsParamNumber}
 use Rattle.rg_parse.specs.declared.reader.halt.Halt.{Halt}
 use Rattle.rg_parse.specs.declared.reader.kinds.Level.{Level}
@@ -89,6 +92,23 @@ FoundCallArgs =
     (q : Path) (m : Name) → Reads source (form.CallRest q m) c ts (record { target = q; method = m; args = as' }) d us)
     exprs_in (λ t. IsSpanBelow t (length t.exprs))
 
+-- an expression in brackets
+pub data ReadsIndex (source : List ℕ) : Counts → List Token → Expr → Counts → List Token → Type 0 where
+  index_row : {c d e : Counts} {t u : Token} {ts us : List Token} {a : Expr}
+      → t.kind ≡ k.Mark s.OpenBracket → opened c ≡ Ok d → Reads source form.Expr d ts a e (u ∷ us) → u.kind ≡ k.Mark s.CloseBracket
+      → ReadsIndex source c (t ∷ ts) a (closed e) us
+
+-- what an expression in brackets expects
+abbrev pub index_symbols : List Symbol
+index_symbols = mark s.OpenBracket ∷ the p.Expr ∷ mark s.CloseBracket ∷ []
+
+abbrev pub FoundSomeIndex : State → ℕ → State → Type 0
+FoundSomeIndex = Found ReadsIndex expr_at IsExprNumber
+
+-- an expression in brackets, or nothing
+abbrev pub FoundIndex : State → Option ℕ → State → Type 0
+FoundIndex = Found (λ source. Reads source form.At) (λ t. option_map (expr_at t)) (λ t o. IfSome o (IsExprNumber t))
+
 -- a right side
 abbrev pub FoundRight : State → row_right.Right → State → Type 0
 FoundRight = Found (λ source. Reads source form.Right) right_of IsRightIn
@@ -101,6 +121,11 @@ FoundNew = Found (λ source. Reads source form.New) right_of IsRightIn
 abbrev pub FoundKind : State → row_kind.StmtKind → State → Type 0
 FoundKind = Found (λ source c ts k d us. Reads source form.Stmt c ts (stmt (line_at 0 ts) k) d us)
     (λ t. kind_over t (stmt_at t)) (λ t. IsKindIn t (length t.stmts))
+
+-- the row of an assignment to a variable or a field, or to an element
+abbrev pub set_row : row_path.Path → (index : Option ℕ) → row_right.Right → row_kind.StmtKind
+set_row q None r = kind_row.Set q r
+set_row q (Some e) r = kind_row.SetAt q e r
 
 -- a statement, whose signs are counted anew
 abbrev pub FoundStmt : State → ℕ → State → Type 0
@@ -116,6 +141,10 @@ FoundStmts = Found (λ source. Reads source form.Stmts) block_of IsBlockIn
 -- what stands behind the first block of an if
 abbrev pub FoundElse : State → Option Span → State → Type 0
 FoundElse = Found (λ source. Reads source form.Else) (λ t. else_over t (stmt_at t)) (λ t o. IfSome o (IsBlockIn t))
+
+-- what stands behind the block of an enter
+abbrev pub FoundGiving : State → Option ℕ → State → Type 0
+FoundGiving = Found (λ source. Reads source form.Giving) (λ t. option_map (name_at t)) (λ t o. IfSome o (IsNameIn t))
 
 -- members
 abbrev pub members_in : Tables → Span → List Member
@@ -148,6 +177,16 @@ param_symbols = param_name ∷ mark s.Colon ∷ the p.Type' ∷ []
 abbrev pub FoundParam : State → ℕ → State → Type 0
 FoundParam = Found ReadsParam param_at IsParamNumber
 
+-- what stands behind a class's name: the type of its elements, if any, and its members
+abbrev pub rest_in : Tables → Option TypeRow × Span → Given form.ClassRest
+rest_in t r = (option_map (type_of t) r.0, members_under t r.0 r.1)
+
+abbrev pub IsRestIn : Tables → Option TypeRow × Span → Type 0
+IsRestIn t r = IfSome r.0 (IsTypeIn t) × IsSpanBelow t (length t.members) r.1
+
+abbrev pub FoundClassRest : State → Option TypeRow × Span → State → Type 0
+FoundClassRest = Found (λ source. Reads source form.ClassRest) rest_in IsRestIn
+
 -- a class
 abbrev pub FoundClass : State → ClassRow → State → Type 0
 FoundClass = Found (λ source. Reads source form.Class) class_of IsClassIn
@@ -170,6 +209,10 @@ FoundCmp = Found (λ source. Reads source form.Cmp) expr_at IsExprNumber
 
 abbrev pub FoundUnary : State → ℕ → State → Type 0
 FoundUnary = Found (λ source. Reads source form.Unary) expr_at IsExprNumber
+
+-- what stands behind a path
+abbrev pub FoundIs : Path → State → ExprRow → State → Type 0
+FoundIs q = Found (λ source. Reads source (form.Is q)) expr_of (λ t r. IsExprIn t (length t.exprs) r)
 
 abbrev pub FoundPrimary : State → ℕ → State → Type 0
 FoundPrimary = Found (λ source. Reads source form.Primary) expr_at IsExprNumber

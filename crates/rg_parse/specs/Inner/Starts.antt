@@ -73,6 +73,7 @@ primary_start (Some (k.Word w.True)) = primary.True
 primary_start (Some (k.Word w.False)) = primary.False
 primary_start (Some (k.Word w.Nil)) = primary.Nil
 primary_start (Some (k.Mark s.OpenParen)) = primary.Paren
+primary_start (Some (k.Word w.Size)) = primary.Size
 primary_start (Some k.Name) = primary.Path
 primary_start (Some (k.Word w.SelfWord)) = primary.Path
 primary_start _ = primary.Nothing

@@ -46,6 +46,7 @@ pub record IsFirst (x : Kind) (a : State) (t : Token) (ts : List Token) : Type 0
 abbrev pub settled : Kind → Counts → Counts
 settled (k.Mark s.CloseBrace) c = closed c
 settled (k.Mark s.CloseParen) c = closed c
+settled (k.Mark s.CloseBracket) c = closed c
 settled (k.Word w.Def) c = method_begins c
 settled (k.Word w.Main) c = main_begins c
 settled _ c = c
@@ -54,6 +55,7 @@ settled _ c = c
 abbrev pub IsFree : Kind → Type 0
 IsFree (k.Mark s.OpenBrace) = ⊥
 IsFree (k.Mark s.OpenParen) = ⊥
+IsFree (k.Mark s.OpenBracket) = ⊥
 IsFree _ = Unit {0}
 
 -- a token of that kind was expected as itself, and is passed
@@ -69,6 +71,10 @@ pub data Took : Kind → State → State → Type 0 where
   took_paren : {source : List ℕ} {t : Token} {ts : List Token} {c d : Counts} {u : Tables}
       → t.kind ≡ k.Mark s.OpenParen → opened c ≡ Ok d
       → Took (k.Mark s.OpenParen) (record { source = source; rest = t ∷ ts; counts = c; tables = u })
+      (record { source = source; rest = ts; counts = d; tables = u })
+  took_bracket : {source : List ℕ} {t : Token} {ts : List Token} {c d : Counts} {u : Tables}
+      → t.kind ≡ k.Mark s.OpenBracket → opened c ≡ Ok d
+      → Took (k.Mark s.OpenBracket) (record { source = source; rest = t ∷ ts; counts = c; tables = u })
       (record { source = source; rest = ts; counts = d; tables = u })
 
 -- a sign of two operands of that kind is passed

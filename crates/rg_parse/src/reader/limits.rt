@@ -45,8 +45,8 @@ fn behind_sign(sign: Sign, mut counts: Counts) -> Result<Counts, Code>
     ensures { result ≡ behind (Kind.Mark sign) counts }
 {
     match sign {
-        Sign::OpenBrace | Sign::OpenParen => return opened(counts),
-        Sign::CloseBrace | Sign::CloseParen => {
+        Sign::OpenBrace | Sign::OpenParen | Sign::OpenBracket => return opened(counts),
+        Sign::CloseBrace | Sign::CloseParen | Sign::CloseBracket => {
             counts.brackets = counts.brackets.saturating_sub(1);
         }
         _ => {}

@@ -150,6 +150,7 @@ pub(crate) enum PrimaryStart {
     False,
     Nil,
     Paren,
+    Size,
     Path,
     Nothing,
 }
@@ -169,6 +170,7 @@ pub(crate) fn primary_start(next: Option<Kind>) -> PrimaryStart
         Keyword::True => PrimaryStart::True,
         Keyword::False => PrimaryStart::False,
         Keyword::Nil => PrimaryStart::Nil,
+        Keyword::Size => PrimaryStart::Size,
         Keyword::SelfWord => PrimaryStart::Path,
         _ => PrimaryStart::Nothing,
     }

@@ -7,7 +7,7 @@ ghost use Rattle.rg_tree.specs.Table.{next};
 ghost use Rattle.rg_parse.specs.Inner.Steps.{Halts};
 ghost use Rattle.rg_parse.specs.Inner.Starts.{stmt_start};
 ghost use Rattle.rg_parse.specs.Inner.Readings.{FoundKind, FoundStmt, FoundBlock, FoundStmts};
-ghost use Rattle.rg_parse.specs.Inner.Readings.{FoundElse};
+ghost use Rattle.rg_parse.specs.Inner.Readings.{FoundElse, FoundGiving};
 ghost use Rattle.rg_tree.specs.Counts.{no_signs};
 
 use crate::reader::Reader;
@@ -142,7 +142,7 @@ impl<'a> Reader<'a> {
         Ok(StmtKind::While { test, body })
     }
 
-    /// `enter q as z { .. }`
+    /// `enter q as z { .. }` and `enter q as z { .. } giving w;`
     #[cycle(stmt)]
     fn enter_row(&mut self) -> Result<StmtKind, Halt>
         requires { stmt_start (next self.old.rest) ≡ StmtStart.Enter }
@@ -155,6 +155,38 @@ impl<'a> Reader<'a> {
         self.take(Kind::Word(Keyword::As))?;
         let name = self.declare(Role::Local)?;
         let body = self.block()?;
-        Ok(StmtKind::Enter { path, name, body })
+        let giving = self.giving()?;
+        Ok(StmtKind::Enter {
+            path,
+            name,
+            body,
+            giving,
+        })
+    }
+
+    /// `giving w;`, or nothing
+    fn giving(&mut self) -> Result<Option<u32>, Halt>
+        ensures ok { IfOk result (λ o. FoundGiving self.old o self.new) }
+        ensures shorter { OnOk result (length self.new.rest ≤ length self.old.rest) }
+        ensures fault { IfErr result (λ e. Halts (the p.Giving ∷ []) self.old e self.new) }
+    {
+        if self.is_next(Kind::Word(Keyword::Giving)) {
+            self.some_giving()
+        } else {
+            Ok(None)
+        }
+    }
+
+    /// `giving w;`
+    fn some_giving(&mut self) -> Result<Option<u32>, Halt>
+        requires { next self.old.rest ≡ Some (Kind.Word Keyword.Giving) }
+        ensures ok { IfOk result (λ o. FoundGiving self.old o self.new) }
+        ensures shorter { OnOk result (length self.new.rest ≤ length self.old.rest) }
+        ensures fault { IfErr result (λ e. Halts (the p.Giving ∷ []) self.old e self.new) }
+    {
+        self.take(Kind::Word(Keyword::Giving))?;
+        let name = self.name()?;
+        self.take(Kind::Mark(Sign::Semicolon))?;
+        Ok(Some(name))
     }
 }

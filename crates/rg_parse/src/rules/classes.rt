@@ -6,17 +6,17 @@ ghost use Rattle.rg_tree.specs.Phrases as p;
 ghost use Rattle.rg_tree.specs.Table.{next};
 ghost use Rattle.rg_parse.specs.Inner.Steps.{Halts};
 ghost use Rattle.rg_parse.specs.Inner.Readings.{FoundParams, FoundMembers, FoundMember, FoundParam};
-ghost use Rattle.rg_parse.specs.Inner.Readings.{FoundClass, param_symbols};
+ghost use Rattle.rg_parse.specs.Inner.Readings.{FoundClass, FoundClassRest, param_symbols};
 
 use crate::reader::Reader;
 use crate::reader::builder::keep;
 use crate::reader::halt::Halt;
 use crate::reader::limits::Role;
 use rg_base::{Code, Keyword, Kind, Sign};
-use rg_tree::{ClassRow, MemberRow, ParamRow, Span};
+use rg_tree::{ClassRow, MemberRow, ParamRow, Span, TypeRow};
 
 impl<'a> Reader<'a> {
-    /// `class C { .. }`
+    /// `class C { .. }` or `class C [T];`
     pub(crate) fn class_row(&mut self) -> Result<ClassRow, Halt>
         requires { next self.old.rest ≡ Some (Kind.Word Keyword.Class) }
         ensures ok { IfOk result (λ r. FoundClass self.old r self.new) }
@@ -26,18 +26,17 @@ impl<'a> Reader<'a> {
         let line = self.line(0);
         self.take(Kind::Word(Keyword::Class))?;
         let name = self.declare(Role::Class)?;
-        self.take(Kind::Mark(Sign::OpenBrace))?;
-        let members = self.members()?;
-        self.take(Kind::Mark(Sign::CloseBrace))?;
+        let rest = self.class_rest()?;
         Ok(ClassRow {
             name,
             is_tmp: false,
-            members,
+            element: rest.0,
+            members: rest.1,
             line,
         })
     }
 
-    /// `tmp class C { .. }`
+    /// `tmp class C { .. }` or `tmp class C [T];`
     pub(crate) fn tmp_class_row(&mut self) -> Result<ClassRow, Halt>
         requires { next self.old.rest ≡ Some (Kind.Word Keyword.Tmp) }
         ensures ok { IfOk result (λ r. FoundClass self.old r self.new) }
@@ -48,15 +47,56 @@ impl<'a> Reader<'a> {
         self.take(Kind::Word(Keyword::Tmp))?;
         self.take(Kind::Word(Keyword::Class))?;
         let name = self.declare(Role::Class)?;
-        self.take(Kind::Mark(Sign::OpenBrace))?;
-        let members = self.members()?;
-        self.take(Kind::Mark(Sign::CloseBrace))?;
+        let rest = self.class_rest()?;
         Ok(ClassRow {
             name,
             is_tmp: true,
-            members,
+            element: rest.0,
+            members: rest.1,
             line,
         })
+    }
+
+    /// `{ .. }` or `[T];`
+    fn class_rest(&mut self) -> Result<(Option<TypeRow>, Span), Halt>
+        ensures ok { IfOk result (λ r. FoundClassRest self.old r self.new) }
+        ensures shorter { OnOk result (length self.new.rest < length self.old.rest) }
+        ensures fault { IfErr result (λ e. Halts (the p.ClassRest ∷ []) self.old e self.new) }
+    {
+        if self.is_next(Kind::Mark(Sign::OpenBrace)) {
+            self.members_row()
+        } else if self.is_next(Kind::Mark(Sign::OpenBracket)) {
+            self.element_row()
+        } else {
+            Err(Halt::At(Code::Syntax))
+        }
+    }
+
+    /// `{ .. }`
+    fn members_row(&mut self) -> Result<(Option<TypeRow>, Span), Halt>
+        requires { next self.old.rest ≡ Some (Kind.Mark Sign.OpenBrace) }
+        ensures ok { IfOk result (λ r. FoundClassRest self.old r self.new) }
+        ensures shorter { OnOk result (length self.new.rest < length self.old.rest) }
+        ensures fault { IfErr result (λ e. Halts (the p.ClassRest ∷ []) self.old e self.new) }
+    {
+        self.take(Kind::Mark(Sign::OpenBrace))?;
+        let members = self.members()?;
+        self.take(Kind::Mark(Sign::CloseBrace))?;
+        Ok((None, members))
+    }
+
+    /// `[T];`
+    fn element_row(&mut self) -> Result<(Option<TypeRow>, Span), Halt>
+        requires { next self.old.rest ≡ Some (Kind.Mark Sign.OpenBracket) }
+        ensures ok { IfOk result (λ r. FoundClassRest self.old r self.new) }
+        ensures shorter { OnOk result (length self.new.rest < length self.old.rest) }
+        ensures fault { IfErr result (λ e. Halts (the p.ClassRest ∷ []) self.old e self.new) }
+    {
+        self.take(Kind::Mark(Sign::OpenBracket))?;
+        let ty = self.ty()?;
+        self.take(Kind::Mark(Sign::CloseBracket))?;
+        self.take(Kind::Mark(Sign::Semicolon))?;
+        Ok((Some(ty), Span { from: 0, to: 0 }))
     }
 
     /// Members up to the end of a class.

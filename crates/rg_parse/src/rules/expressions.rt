@@ -8,19 +8,20 @@ ghost use Rattle.rg_parse.specs.Inner.Steps.{Halts};
 ghost use Rattle.std.specs.Prelude.{ℕ};
 ghost use Rattle.rg_tree.specs.Operators.{literal_of};
 ghost use Rattle.rg_tree.specs.Rows.Tables.{Tables};
-ghost use Rattle.rg_tree.specs.Rows.RowTrees.{expr_of};
-ghost use Rattle.rg_tree.specs.Rows.RowsExist.{IsExprIn};
+ghost use Rattle.rg_tree.specs.Rows.RowTrees.{expr_of, path_of};
+ghost use Rattle.rg_tree.specs.Rows.RowsExist.{IsExprIn, IsPathIn};
 ghost use Rattle.rg_parse.specs.Inner.Starts.{primary_start};
 ghost use Rattle.rg_parse.specs.Inner.Levels.{chain_at, operand_at};
 ghost use Rattle.rg_parse.specs.Inner.Readings.{FoundChain, FoundOperand, FoundExpr, FoundNot};
-ghost use Rattle.rg_parse.specs.Inner.Readings.{FoundCmp, FoundUnary, FoundPrimary};
+ghost use Rattle.rg_parse.specs.Inner.Readings.{FoundCmp, FoundUnary, FoundPrimary, FoundIs};
+ghost use Rattle.rg_parse.specs.Inner.Readings.{FoundIndex, FoundSomeIndex, index_symbols};
 
 use crate::reader::Reader;
 use crate::reader::halt::Halt;
 use crate::reader::kinds::{Level, next_comparison, next_operator};
 use crate::reader::starts::{PrimaryStart, primary_start};
 use rg_base::{Code, Keyword, Kind, Sign};
-use rg_tree::ExprRow;
+use rg_tree::{ExprRow, Path};
 
 impl<'a> Reader<'a> {
     /// An expression.
@@ -137,7 +138,7 @@ impl<'a> Reader<'a> {
         Ok(number)
     }
 
-    /// A literal, an expression in parentheses, or a path and what is asked of it.
+    /// A literal, an expression in parentheses, a size, or a path and what is asked of it.
     #[cycle(expr)]
     fn primary(&mut self) -> Result<u32, Halt>
         ensures ok { IfOk result (λ e. FoundPrimary self.old e self.new) }
@@ -150,6 +151,7 @@ impl<'a> Reader<'a> {
             PrimaryStart::False => self.literal(Kind::Word(Keyword::False), ExprRow::Bool(false)),
             PrimaryStart::Nil => self.literal(Kind::Word(Keyword::Nil), ExprRow::Nil),
             PrimaryStart::Paren => self.parens(),
+            PrimaryStart::Size => self.size_row(),
             PrimaryStart::Path => self.path_value(),
             PrimaryStart::Nothing => Err(Halt::At(Code::Syntax)),
         }
@@ -183,7 +185,21 @@ impl<'a> Reader<'a> {
         Ok(number)
     }
 
-    /// `q` or `q is nil`
+    /// `size q`
+    fn size_row(&mut self) -> Result<u32, Halt>
+        requires { primary_start (next self.old.rest) ≡ PrimaryStart.Size }
+        ensures ok { IfOk result (λ e. FoundPrimary self.old e self.new) }
+        ensures shorter { OnOk result (length self.new.rest < length self.old.rest) }
+        ensures fault { IfErr result (λ e. Halts (the p.Primary ∷ []) self.old e self.new) }
+    {
+        self.take(Kind::Word(Keyword::Size))?;
+        let path = self.path()?;
+        let number = self.add_expr(ExprRow::Size(path))?;
+        Ok(number)
+    }
+
+    /// `q`, `q is nil` or `q[e]`
+    #[cycle(expr)]
     fn path_value(&mut self) -> Result<u32, Halt>
         requires { primary_start (next self.old.rest) ≡ PrimaryStart.Path }
         ensures ok { IfOk result (λ e. FoundPrimary self.old e self.new) }
@@ -191,14 +207,57 @@ impl<'a> Reader<'a> {
         ensures fault { IfErr result (λ e. Halts (the p.Primary ∷ []) self.old e self.new) }
     {
         let path = self.path()?;
+        let row = self.behind_path(path)?;
+        let number = self.add_expr(row)?;
+        Ok(number)
+    }
+
+    /// `is nil`, `[e]` or nothing, behind a path
+    #[cycle(expr)]
+    fn behind_path(&mut self, path: Path) -> Result<ExprRow, Halt>
+        requires { IsPathIn self.old.tables path }
+        ensures ok { IfOk result
+            (λ r. FoundIs (path_of self.old.tables path) self.old r self.new) }
+        ensures shorter { OnOk result (length self.new.rest ≤ length self.old.rest) }
+        ensures fault { IfErr result (λ e. Halts (the p.Is ∷ []) self.old e self.new) }
+    {
         if self.is_next(Kind::Word(Keyword::Is)) {
             self.take(Kind::Word(Keyword::Is))?;
             self.take(Kind::Word(Keyword::Nil))?;
-            let number = self.add_expr(ExprRow::IsNil(path))?;
-            Ok(number)
+            Ok(ExprRow::IsNil(path))
+        } else if self.is_next(Kind::Mark(Sign::OpenBracket)) {
+            let index = self.some_index()?;
+            Ok(ExprRow::At { path, index })
         } else {
-            let number = self.add_expr(ExprRow::Path(path))?;
-            Ok(number)
+            Ok(ExprRow::Path(path))
         }
+    }
+
+    /// `[e]`, or nothing
+    pub(crate) fn index(&mut self) -> Result<Option<u32>, Halt>
+        ensures ok { IfOk result (λ o. FoundIndex self.old o self.new) }
+        ensures shorter { OnOk result (length self.new.rest ≤ length self.old.rest) }
+        ensures fault { IfErr result (λ e. Halts (the p.At ∷ []) self.old e self.new) }
+    {
+        if self.is_next(Kind::Mark(Sign::OpenBracket)) {
+            let index = self.some_index()?;
+            Ok(Some(index))
+        } else {
+            Ok(None)
+        }
+    }
+
+    /// `[e]`
+    #[cycle(expr)]
+    fn some_index(&mut self) -> Result<u32, Halt>
+        requires { next self.old.rest ≡ Some (Kind.Mark Sign.OpenBracket) }
+        ensures ok { IfOk result (λ e. FoundSomeIndex self.old e self.new) }
+        ensures shorter { OnOk result (length self.new.rest < length self.old.rest) }
+        ensures fault { IfErr result (λ e. Halts index_symbols self.old e self.new) }
+    {
+        self.take(Kind::Mark(Sign::OpenBracket))?;
+        let inner = self.chain(Level::Or)?;
+        self.take(Kind::Mark(Sign::CloseBracket))?;
+        Ok(inner)
     }
 }

@@ -32,7 +32,7 @@ impl<'a> Reader<'a> {
         }
     }
 
-    /// `new C`, `new tmp C` or `new iso C in trace`
+    /// `new C`, `new tmp C` or `new iso C in trace`, and the same with `[e]` behind the class
     fn new_object(&mut self) -> Result<Right, Halt>
         requires { right_start (next self.old.rest) ≡ RightStart.New }
         ensures ok { IfOk result (λ r. FoundRight self.old r self.new) }
@@ -112,7 +112,7 @@ impl<'a> Reader<'a> {
         Ok(Right::Expr(expr))
     }
 
-    /// `C`, `tmp C` or `iso C in trace`
+    /// `C`, `tmp C` or `iso C in trace`, and the same with `[e]` behind the class
     fn behind_new(&mut self) -> Result<Right, Halt>
         ensures ok { IfOk result (λ r. FoundNew self.old r self.new) }
         ensures shorter { OnOk result (length self.new.rest < length self.old.rest) }
@@ -126,7 +126,7 @@ impl<'a> Reader<'a> {
         }
     }
 
-    /// `C`
+    /// `C` or `C [e]`
     fn new_plain(&mut self) -> Result<Right, Halt>
         requires { new_start (next self.old.rest) ≡ NewStart.Plain }
         ensures ok { IfOk result (λ r. FoundNew self.old r self.new) }
@@ -134,10 +134,11 @@ impl<'a> Reader<'a> {
         ensures fault { IfErr result (λ e. Halts (the p.New ∷ []) self.old e self.new) }
     {
         let name = self.name()?;
-        Ok(Right::New { name })
+        let size = self.index()?;
+        Ok(Right::New { name, size })
     }
 
-    /// `tmp C`
+    /// `tmp C` or `tmp C [e]`
     fn new_tmp(&mut self) -> Result<Right, Halt>
         requires { new_start (next self.old.rest) ≡ NewStart.Tmp }
         ensures ok { IfOk result (λ r. FoundNew self.old r self.new) }
@@ -146,10 +147,11 @@ impl<'a> Reader<'a> {
     {
         self.take(Kind::Word(Keyword::Tmp))?;
         let name = self.name()?;
-        Ok(Right::NewTmp { name })
+        let size = self.index()?;
+        Ok(Right::NewTmp { name, size })
     }
 
-    /// `iso C in trace`
+    /// `iso C in trace` or `iso C [e] in trace`
     fn new_iso(&mut self) -> Result<Right, Halt>
         requires { new_start (next self.old.rest) ≡ NewStart.Iso }
         ensures ok { IfOk result (λ r. FoundNew self.old r self.new) }
@@ -158,8 +160,13 @@ impl<'a> Reader<'a> {
     {
         self.take(Kind::Word(Keyword::Iso))?;
         let name = self.name()?;
+        let size = self.index()?;
         self.take(Kind::Word(Keyword::In))?;
         let manager = self.manager()?;
-        Ok(Right::NewIso { name, manager })
+        Ok(Right::NewIso {
+            name,
+            size,
+            manager,
+        })
     }
 }

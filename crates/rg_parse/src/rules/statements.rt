@@ -7,13 +7,23 @@ ghost use Rattle.rg_tree.specs.Table.{next};
 ghost use Rattle.rg_parse.specs.Inner.Steps.{Halts};
 ghost use Rattle.rg_parse.specs.declared.reader.starts.StmtStart.{StmtStart};
 ghost use Rattle.rg_parse.specs.Inner.Starts.{stmt_start};
-ghost use Rattle.rg_parse.specs.Inner.Readings.{FoundKind};
+ghost use Rattle.rg_parse.specs.Inner.Readings.{FoundKind, set_row};
 
 use crate::reader::Reader;
 use crate::reader::halt::Halt;
 use crate::reader::limits::Role;
 use rg_base::{Keyword, Kind, Sign};
-use rg_tree::StmtKind;
+use rg_tree::{Path, Right, StmtKind};
+
+/// The row of an assignment to a variable or a field, or to an element.
+fn set_row(path: Path, index: Option<u32>, right: Right) -> StmtKind
+    ensures { result ≡ set_row path index right }
+{
+    match index {
+        Some(index) => StmtKind::SetAt { path, index, right },
+        None => StmtKind::Set { path, right },
+    }
+}
 
 impl<'a> Reader<'a> {
     /// `let x: T = r;`
@@ -33,7 +43,7 @@ impl<'a> Reader<'a> {
         Ok(StmtKind::Let { name, ty, right })
     }
 
-    /// `x = r;` and `q.f = r;`
+    /// `x = r;`, `q.f = r;` and `q[e] = r;`
     pub(crate) fn assign_row(&mut self) -> Result<StmtKind, Halt>
         requires { stmt_start (next self.old.rest) ≡ StmtStart.Assign }
         ensures ok { IfOk result (λ k. FoundKind self.old k self.new) }
@@ -41,10 +51,11 @@ impl<'a> Reader<'a> {
         ensures fault { IfErr result (λ e. Halts (the p.Stmt ∷ []) self.old e self.new) }
     {
         let path = self.path()?;
+        let index = self.index()?;
         self.take(Kind::Mark(Sign::Assign))?;
         let right = self.right()?;
         self.take(Kind::Mark(Sign::Semicolon))?;
-        Ok(StmtKind::Set { path, right })
+        Ok(set_row(path, index, right))
     }
 
     /// `call q.m(a, b);`

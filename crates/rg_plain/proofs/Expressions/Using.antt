@@ -8,7 +8,7 @@ use Rattle.std.proofs.lemmas.List.Concat.{flat_map-append}
 use Rattle.rg_base.specs.declared.value.Val.{Val}
 use Rattle.rg_base.specs.declared.value.Val.TheVariants.{Nil}
 use Rattle.rg_tree.specs.declared.rows.BinOp.{BinOp}
-use Rattle.rg_tree.specs.Tree.{Name, Variable, Expr, number, boolean, nil, path, is_nil, neg, not, binary}
+use Rattle.rg_tree.specs.Tree.{Name, Variable, Expr, path, neg, not, binary, element}
 use Rattle.rg_rules.specs.Environment.{same_variable}
 use Rattle.rg_rules.specs.State.{Local, set_in}
 use Rattle.rg_rules.specs.Evaluation.{is_iso_local, uses_path, uses, cleared}
@@ -39,6 +39,7 @@ uses-cleared xs ls (path p) = uses_path-cleared xs ls p.base p.fields
 uses-cleared xs ls (neg a) = uses-cleared xs ls a
 uses-cleared xs ls (not a) = uses-cleared xs ls a
 uses-cleared xs ls (binary op a b) = rw (uses-cleared xs ls a, uses-cleared xs ls b) refl
+uses-cleared xs ls (element q e) = uses-cleared xs ls e
 uses-cleared xs ls _ = refl
 
 -- the left operand, and then the right one

@@ -1,17 +1,21 @@
--- Labels and windows of regions that were made.
+-- Labels and windows of regions that were made, and a machine whose objects were written.
 use Rattle.std.proofs.Common.{◌≡◌, ℕ, ◌<◌, ◌≤◌, List, [], ◌∷◌, ◌++◌, length, All, Some, sym, ◌∙◌}
-use Rattle.std.proofs.Common.{ap, subst, arith, length-append}
+use Rattle.std.proofs.Common.{ap, subst, arith, length-append, Vec}
+use Rattle.std.specs.declared.alloc.Global.{Global}
 use Rattle.std.proofs.lemmas.List.{map-append}
 use Rattle.std.proofs.lemmas.List.Elements.{All-push, All-weaker, All-pop}
 use Rattle.rg_base.specs.declared.object.Seen.{Seen}
 use Rattle.rg_base.specs.declared.words.Manager.{Manager}
+use Rattle.rg_tree.specs.Rows.Tables.{Tables}
 use Rattle.rg_store.specs.declared.objects.ObjectRow.{ObjectRow}
-use Rattle.rg_store.specs.Shown.{seen_of, store_of}
-use Rattle.rg_store.specs.Regions.{LabelFits}
+use Rattle.rg_store.specs.Shown.{seen_of, store_of, AreOfClasses}
+use Rattle.rg_store.specs.Regions.{LabelFits, LabelsFit}
 use Rattle.rg_store.proofs.Callers.Label.{LabelFits-more}
 use Rattle.rg_plain.specs.declared.steps.new.Kind.{Kind}
 use Rattle.rg_plain.specs.declared.steps.new.Kind.TheVariants as kind
 use Rattle.rg_plain.specs.declared.state.rows.WindowRow.{WindowRow}
+use Rattle.rg_plain.specs.declared.state.parts.Parts.{Parts}
+use Rattle.rg_plain.specs.Fits.{PartsFit}
 use Rattle.rg_plain.specs.Inner.Makes.{managers_with}
 use Rattle.rg_plain.specs.Regions.{RegionsFit}
 
@@ -60,3 +64,25 @@ made-fits what old new rows all o w outer fits label all_is new_is =
     let label_fits : LabelFits (length new) o.label = subst (λ q. LabelFits (length q) o.label) (sym new_is) label in
     subst (λ q. RegionsFit (length new) q w outer) (sym (ap store_of all_is ∙ map-append seen_of rows (o ∷ [])))
     (RegionsFit-made (length old) (length new) (store_of rows) w outer (seen_of o) fits more label_fits)
+
+-- the objects were written, which keeps classes and labels; `mid` are those that were lent, and `rows` those that came back
+pub PartsFit-stored : (t : Tables) (p : Parts) (mid rows : List ObjectRow) (store : Vec ObjectRow Global) → mid ≡ p.store.items → store.items ≡ rows →
+    PartsFit t p → (AreOfClasses t mid → AreOfClasses t rows) →
+    (LabelsFit (length p.managers.items) (store_of mid) → LabelsFit (length p.managers.items) (store_of rows)) →
+    PartsFit t (record p { store = store })
+PartsFit-stored t p mid rows store mid_is rows_is fits classes labels =
+    let Of : List ObjectRow → Type 0 = λ q. AreOfClasses t q in
+    let Fit : List ObjectRow → Type 0 = λ q. LabelsFit (length p.managers.items) (store_of q) in
+    record {
+      objects = subst Of (sym rows_is) (classes (subst Of (sym mid_is) fits.objects));
+      named = fits.named;
+      below = fits.below;
+      targets = fits.targets;
+      target = fits.target;
+      items = fits.items;
+      regions = record {
+        labels = subst Fit (sym rows_is) (labels (subst Fit (sym mid_is) fits.regions.labels));
+        active = fits.regions.active;
+        outer = fits.regions.outer;
+      };
+    }

@@ -1,13 +1,14 @@
 -- Variables at their places.
-use Rattle.std.proofs.Common.{◌≡◌, ℕ, zero, suc, ◌≤◌, Bool, true, false, if◌then◌else◌, List, [], ◌∷◌, length, option_map, Option, Some, None}
-use Rattle.std.proofs.Common.{slice_get, slice_set, arith, refl, sym, ◌∙◌, ap}
-use Rattle.std.proofs.lemmas.Option.{slice_get-map, same_Some}
+use Rattle.std.proofs.Common.{◌≡◌, ℕ, suc, Bool, true, false, if◌then◌else◌, List, [], ◌∷◌, option_map, Option, Some, None}
+use Rattle.std.proofs.Common.{slice_get, slice_set, refl, sym, ◌∙◌, ap}
+use Rattle.std.proofs.lemmas.List.{map-set}
+use Rattle.std.proofs.lemmas.Option.{slice_get-map}
 use Rattle.rg_base.specs.declared.value.Val.{Val}
 use Rattle.rg_base.specs.declared.value.Val.TheVariants.{Nil}
 use Rattle.rg_tree.specs.Tree.{Variable}
 use Rattle.rg_tree.specs.Rows.Tables.{Tables}
 use Rattle.rg_rules.specs.Environment.{same_variable}
-use Rattle.rg_rules.specs.State.{Local, value_in, place_in, set_in}
+use Rattle.rg_rules.specs.State.{Local, value_in, place_in, set_at, set_in}
 use Rattle.rg_rules.specs.Capabilities.{is_iso}
 use Rattle.rg_rules.specs.Evaluation.{is_iso_local}
 use Rattle.rg_plain.specs.declared.state.rows.LocalRow.{LocalRow}
@@ -73,27 +74,31 @@ pub is_iso_local-found : (t : Tables) (ls : List LocalRow) (x : Variable) (k : �
 is_iso_local-found t ls x k o k_is there =
     sym (is_iso_local-place (locals_of t ls) x ∙ ap iso_at (get-locals_of t ls x k o k_is there) ∙ iso-row t o)
 
--- a write to the variable at a place
-pub set_in-place : (t : Tables) (ls : List LocalRow) (x : Variable) (v : Val) (k : ℕ) (l : LocalRow) → k ≡ place_in (locals_of t ls) x →
-    slice_get ls k ≡ Some l → locals_of t (slice_set ls k (record l { value = v })) ≡ set_in x v (locals_of t ls)
-set_in-place t [] x v k l k_is there = cc
-set_in-place t (m ∷ ms) x v k l k_is there = by (same_variable (local_of t m).name x) k k_is there (set_in-place t ms x v)
-  where
-    by : (b : Bool) (k : ℕ) → k ≡ (if b then 0 else suc (place_in (locals_of t ms) x)) → slice_get (m ∷ ms) k ≡ Some l →
-        ((j : ℕ) (r : LocalRow) → j ≡ place_in (locals_of t ms) x → slice_get ms j ≡ Some r →
-        locals_of t (slice_set ms j (record r { value = v })) ≡ set_in x v (locals_of t ms)) →
-        locals_of t (slice_set (m ∷ ms) k (record l { value = v }))
-        ≡ (if b then record (local_of t m) { value = v } ∷ locals_of t ms else local_of t m ∷ set_in x v (locals_of t ms))
-    by true zero k_is there rest = ap (λ (r : LocalRow). record (local_of t r) { value = v } ∷ locals_of t ms) (sym (same_Some m l there))
-    by true (suc k) k_is there rest = absurd (omega arith)
-    by false zero k_is there rest = absurd (omega arith)
-    by false (suc k) k_is there rest = ap (λ q. local_of t m ∷ q) (rest k l (omega arith) there)
+-- a write to the variable of a place
+set_at-there : (ls : List Local) (k : ℕ) (v : Val) (l : Local) → slice_get ls k ≡ Some l → set_at k v ls ≡ slice_set ls k (record l { value = v })
+set_at-there ls k v l there = rw (set_at, there) refl
 
-pub set_in-none : (ls : List Local) (x : Variable) (v : Val) → length ls ≤ place_in ls x → set_in x v ls ≡ ls
-set_in-none [] x v past = refl
-set_in-none (l ∷ ls) x v past = by (same_variable l.name x) past (set_in-none ls x v)
+pub set_at-row : (t : Tables) (ls : List LocalRow) (k : ℕ) (v : Val) (l : LocalRow) → slice_get ls k ≡ Some l →
+    locals_of t (slice_set ls k (record l { value = v })) ≡ set_at k v (locals_of t ls)
+set_at-row t ls k v l there =
+    map-set (local_of t) ls k (record l { value = v })
+    ∙ sym (set_at-there (locals_of t ls) k v (local_of t l) (slice_get-map (local_of t) ls k ∙ ap (option_map (local_of t)) there))
+
+set_at-next : (l : Local) (ls : List Local) (k : ℕ) (v : Val) → set_at (suc k) v (l ∷ ls) ≡ l ∷ set_at k v ls
+set_at-next l ls k v = by (slice_get ls k)
   where
-    by : (b : Bool) → length (l ∷ ls) ≤ (if b then 0 else suc (place_in ls x)) → (length ls ≤ place_in ls x → set_in x v ls ≡ ls) →
-        (if b then record l { value = v } ∷ ls else l ∷ set_in x v ls) ≡ l ∷ ls
-    by true past rest = absurd (omega arith)
-    by false past rest = ap (λ q. l ∷ q) (rest (omega arith))
+    by : (o : Option Local) →
+        ◌≡◌ {A = List Local} (elim o [ None ↦ l ∷ ls | Some m ↦ slice_set (l ∷ ls) (suc k) (record m { value = v }) ])
+        (l ∷ (elim o [ None ↦ ls | Some m ↦ slice_set ls k (record m { value = v }) ]))
+    by None = refl
+    by (Some m) = refl
+
+-- a write to the first variable of a name is one to that of its place
+pub set_at-place : (ls : List Local) (x : Variable) (v : Val) → set_at (place_in ls x) v ls ≡ set_in x v ls
+set_at-place [] x v = refl
+set_at-place (l ∷ ls) x v = by (same_variable l.name x) (set_at-place ls x v)
+  where
+    by : (b : Bool) → set_at (place_in ls x) v ls ≡ set_in x v ls →
+        set_at (if b then 0 else suc (place_in ls x)) v (l ∷ ls) ≡ (if b then record l { value = v } ∷ ls else l ∷ set_in x v ls)
+    by true rest = refl
+    by false rest = set_at-next l ls (place_in ls x) v ∙ ap (λ q. l ∷ q) rest

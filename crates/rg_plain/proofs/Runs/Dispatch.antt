@@ -3,10 +3,10 @@ use Rattle.std.proofs.Common.{◌≡◌, ◌≢◌, ◌⊎◌, inl, inr, ℕ, Bo
 use Rattle.std.proofs.lemmas.List.Elements.{All-head}
 use Rattle.rg_base.specs.declared.outcome.Outcome.{Outcome}
 use Rattle.rg_base.specs.declared.outcome.Outcome.TheVariants as outcome
-use Rattle.rg_tree.specs.Rows.Tables.{Tables}
+use Rattle.rg_tree.specs.Rows.Tables.{Tables, name_at}
 use Rattle.rg_tree.specs.Rows.RowTrees.{classes_of, block_of}
 use Rattle.rg_tree.specs.Tree.{Block, empty as no_more, then as followed_by}
-use Rattle.rg_rules.specs.Items.{Item, Do, EndAt, LeaveAt, Back, items_of}
+use Rattle.rg_rules.specs.Items.{Item, Do, EndAt, LeaveAt, LeaveGiving, Back, items_of}
 use Rattle.rg_plain.specs.declared.state.rows.ItemRow.{ItemRow}
 use Rattle.rg_plain.specs.declared.state.rows.ItemRow.TheVariants as row
 use Rattle.rg_plain.specs.Kept.{Kept, items_from, put_row, shown, plain_of, ItemFits, ItemsFit}
@@ -29,12 +29,14 @@ some-put : (t : Tables) (r : ItemRow) (items : List Item) → Some_are items →
 some-put t (row.Rest s) items some = some-items_of (block_of t s) items some
 some-put t (row.EndAt k) items some = record { first = EndAt k; rest = items; are = refl }
 some-put t (row.LeaveAt k) items some = record { first = LeaveAt k; rest = items; are = refl }
+some-put t (row.LeaveGiving line k w) items some = record { first = LeaveGiving line k (name_at t w); rest = items; are = refl }
 some-put t row.Back items some = record { first = Back; rest = items; are = refl }
 
 some-first : (t : Tables) (r : ItemRow) → ItemFits t r → Some_are (put_row t r [])
 some-first t (row.Rest s) fits = record { first = _; rest = _; are = put_row-first t s [] fits }
 some-first t (row.EndAt k) fits = record { first = EndAt k; rest = []; are = refl }
 some-first t (row.LeaveAt k) fits = record { first = LeaveAt k; rest = []; are = refl }
+some-first t (row.LeaveGiving line k w) fits = record { first = LeaveGiving line k (name_at t w); rest = []; are = refl }
 some-first t row.Back fits = record { first = Back; rest = []; are = refl }
 
 some-items_from : (t : Tables) (items : List Item) (rows : List ItemRow) → Some_are items → Some_are (items_from t items rows)

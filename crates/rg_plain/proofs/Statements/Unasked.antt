@@ -1,16 +1,17 @@
 -- Steps that leave the input and its source alone.
-use Rattle.std.proofs.Common.{◌≡◌, ◌≢◌, ℕ, List, Option, refl, arith, inl, false}
+use Rattle.std.proofs.Common.{◌≡◌, ◌≢◌, ℕ, List, Option, Result, refl, arith, inl, false}
 use Rattle.rg_base.specs.declared.outcome.Outcome.{Outcome}
 use Rattle.rg_base.specs.declared.outcome.Outcome.TheVariants as outcome
 use Rattle.rg_tree.specs.Rows.Tables.{Tables}
 use Rattle.rg_input.specs.Numbers.{Follows, OnInput, Pending}
 use Rattle.rg_plain.specs.declared.state.parts.Parts.{Parts}
+use Rattle.rg_plain.specs.declared.steps.refusal.Refusal.{Refusal}
 use Rattle.rg_plain.specs.Fits.{PartsFit}
 use Rattle.rg_plain.specs.Inner.Inputs.{MadeOn, StepOn}
-use Rattle.rg_plain.specs.Inner.Steps.{GoesOn}
+use Rattle.rg_plain.specs.Inner.Steps.{GoesOn, Makes, outcome_of}
 use Rattle.rg_plain.specs.Kept.{kept_of, shown}
 use Rattle.rg_plain.specs.Outcomes.{QuietOrPrints, first_prints}
-use Rattle.rg_plain.proofs.Statements.Input.{reads_nothing}
+use Rattle.rg_plain.proofs.Statements.Input.{reads_nothing, does}
 
 -- one that doesn't end with a fault of the input
 pub unasked : {S : Type 0} (left : S → Option (List ℕ)) (faults : S → ℕ) (t : Tables) (old new : Parts) (n : Pending) (source : S) (r : Outcome) →
@@ -27,6 +28,14 @@ unasked left faults t old new n source r step quiet fit no_fault follows =
       fault = λ e. absurd (no_fault e);
       never_falls = omega arith;
     }
+
+-- one that may be refused
+pub does-unasked : {S : Type 0} (left : S → Option (List ℕ)) (faults : S → ℕ) (t : Tables) (old new : Parts) (n : Pending) (source : S) (line : ℕ)
+    (r : Result (Unit {0}) Refusal) (o : Outcome) →
+    Makes t (kept_of old) (kept_of new) line r → first_prints (shown t old.items.items) ≡ false → PartsFit t new → o ≡ outcome_of r line →
+    o ≢ outcome.InputFault → Follows n (left source) → MadeOn left faults t old new n n source source o
+does-unasked left faults t old new n source line r o step quiet fit is no_fault follows =
+    unasked left faults t old new n source o (does t (kept_of old) (kept_of new) line r o n (left source) is step) (inl quiet) fit no_fault follows
 
 -- one that can't be refused
 pub goes-on : {S : Type 0} (left : S → Option (List ℕ)) (faults : S → ℕ) (t : Tables) (old new : Parts) (n : Pending) (source : S) →

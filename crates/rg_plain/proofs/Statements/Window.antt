@@ -10,7 +10,7 @@ use Rattle.rg_tree.specs.declared.rows.Path as row_path
 use Rattle.rg_tree.specs.Tree.{Name, Block, stmt, enter}
 use Rattle.rg_tree.specs.Rows.Tables.{Tables}
 use Rattle.rg_tree.specs.Rows.RowTrees.{classes_of, path_of, stmt_at}
-use Rattle.rg_rules.specs.Items.{Item, Do}
+use Rattle.rg_rules.specs.Items.{Item, Do, leave_of}
 use Rattle.rg_rules.specs.State.{State}
 use Rattle.rg_rules.specs.Regions.{region_of}
 use Rattle.rg_rules.specs.Evaluation.{object_at}
@@ -28,52 +28,55 @@ use Rattle.rg_plain.specs.Inner.Windows.{OwnerIs}
 use Rattle.rg_plain.proofs.Statements.Step.{next-at}
 
 -- an owner that isn't there
-pub owner-refused : (t : Tables) (k : Kept) (input : List ℕ) (number line : ℕ) (p : row_path.Path) (z : Name) (body : Block) (why : Refusal)
-    (rest : List Item) →
-    OwnerIs t k p (Err why) → shown t k.items ≡ Do (stmt_at t number) ∷ rest → stmt_at t number ≡ stmt line (enter (path_of t p) z body) →
+pub owner-refused : (t : Tables) (k : Kept) (input : List ℕ) (number line : ℕ) (p : row_path.Path) (z : Name) (body : Block) (giving : Option Name)
+    (why : Refusal) (rest : List Item) →
+    OwnerIs t k p (Err why) → shown t k.items ≡ Do (stmt_at t number) ∷ rest →
+    stmt_at t number ≡ stmt line (enter (path_of t p) z body giving) →
     Refuses (next (classes_of t) (plain_of t k input)) (plain_of t k input) (plain_of t k input) line why
-owner-refused t k input number line p z body (refused.Trap kind) rest is shown_is tree = (
-  next-at t (classes_of t) k input number line (enter (path_of t p) z body) rest shown_is tree ∙ ap (stepped line) (is input rest line z body),
+owner-refused t k input number line p z body giving (refused.Trap kind) rest is shown_is tree = (
+  next-at t (classes_of t) k input number line (enter (path_of t p) z body giving) rest shown_is tree
+      ∙ ap (stepped line) (is input rest line z body giving),
   refl,
 )
-owner-refused t k input number line p z body refused.Memory rest is shown_is tree = refl
+owner-refused t k input number line p z body giving refused.Memory rest is shown_is tree = refl
 
-entered-cut : (s : State) (owner : Place) (z : Name) (body : Block) (bridge : Val) (kind : Trap) → object_at s.store bridge ≡ Err kind →
-    entered s owner z body bridge ≡ Err kind
-entered-cut s owner z body bridge kind cut = rw (entered, cut) refl
+entered-cut : (s : State) (owner : Place) (z : Name) (body : Block) (after : ℕ → Item) (bridge : Val) (kind : Trap) →
+    object_at s.store bridge ≡ Err kind → entered s owner z body after bridge ≡ Err kind
+entered-cut s owner z body after bridge kind cut = rw (entered, cut) refl
 
-entered-at : (s : State) (owner : Place) (z : Name) (body : Block) (bridge : Val) (o : Seen) (class : ℕ) (region : Option ℕ) →
+entered-at : (s : State) (owner : Place) (z : Name) (body : Block) (after : ℕ → Item) (bridge : Val) (o : Seen) (class : ℕ) (region : Option ℕ) →
     object_at s.store bridge ≡ Ok o → o.class ≡ class → region_of o.label ≡ region →
-    entered s owner z body bridge ≡ Ok (with_window s owner z body bridge class region)
-entered-at s owner z body bridge o class region at class_is region_is =
-    entered-object ∙ ap (λ c. Ok (with_window s owner z body bridge c (region_of o.label))) class_is
-    ∙ ap (λ r. Ok (with_window s owner z body bridge class r)) region_is
+    entered s owner z body after bridge ≡ Ok (with_window s owner z body after bridge class region)
+entered-at s owner z body after bridge o class region at class_is region_is =
+    entered-object ∙ ap (λ c. Ok (with_window s owner z body after bridge c (region_of o.label))) class_is
+    ∙ ap (λ r. Ok (with_window s owner z body after bridge class r)) region_is
   where
-    entered-object : entered s owner z body bridge ≡ Ok (with_window s owner z body bridge o.class (region_of o.label))
+    entered-object : entered s owner z body after bridge ≡ Ok (with_window s owner z body after bridge o.class (region_of o.label))
     entered-object = rw (entered, at) refl
 
 -- the owner leads to no object
-pub enter-cut : (t : Tables) (k : Kept) (input : List ℕ) (number line : ℕ) (p : row_path.Path) (z : Name) (body : Block) (w : Owner) (rest
-    : List Item) (kind : Trap) →
+pub enter-cut : (t : Tables) (k : Kept) (input : List ℕ) (number line : ℕ) (p : row_path.Path) (z : Name) (body : Block) (giving : Option Name)
+    (w : Owner) (rest : List Item) (kind : Trap) →
     OwnerIs t k p (Ok w) → object_at k.store w.bridge ≡ Err kind → shown t k.items ≡ Do (stmt_at t number) ∷ rest →
-    stmt_at t number ≡ stmt line (enter (path_of t p) z body) → next (classes_of t) (plain_of t k input) ≡ Trapped kind line
-enter-cut t k input number line p z body w rest kind is cut shown_is tree =
+    stmt_at t number ≡ stmt line (enter (path_of t p) z body giving) → next (classes_of t) (plain_of t k input) ≡ Trapped kind line
+enter-cut t k input number line p z body giving w rest kind is cut shown_is tree =
     let s : State = record (plain_of t k input) { items = rest } in
-    next-at t (classes_of t) k input number line (enter (path_of t p) z body) rest shown_is tree
-    ∙ ap (stepped line) (is input rest line z body ∙ entered-cut s w.place z body w.bridge kind cut)
+    next-at t (classes_of t) k input number line (enter (path_of t p) z body giving) rest shown_is tree
+    ∙ ap (stepped line) (is input rest line z body giving
+    ∙ entered-cut s w.place z body (λ kept. leave_of line kept giving) w.bridge kind cut)
 
 -- it leads to one
-pub enter-at : (t : Tables) (k : Kept) (input : List ℕ) (number line : ℕ) (p : row_path.Path) (z : Name) (body : Block) (w : Owner) (items
-    : List ItemRow)
-    (o : Seen) (class : ℕ) (region : Option ℕ) (new : State) →
+pub enter-at : (t : Tables) (k : Kept) (input : List ℕ) (number line : ℕ) (p : row_path.Path) (z : Name) (body : Block) (giving : Option Name)
+    (w : Owner) (items : List ItemRow) (o : Seen) (class : ℕ) (region : Option ℕ) (new : State) →
     OwnerIs t k p (Ok w) → object_at k.store w.bridge ≡ Ok o → o.class ≡ class → region_of o.label ≡ region →
-    shown t k.items ≡ Do (stmt_at t number) ∷ shown t items → stmt_at t number ≡ stmt line (enter (path_of t p) z body) →
-    new ≡ with_window (plain_of t (record k { items = items }) input) w.place z body w.bridge class region →
+    shown t k.items ≡ Do (stmt_at t number) ∷ shown t items → stmt_at t number ≡ stmt line (enter (path_of t p) z body giving) →
+    new ≡ with_window (plain_of t (record k { items = items }) input) w.place z body (λ kept. leave_of line kept giving) w.bridge class region →
     next (classes_of t) (plain_of t k input) ≡ Went new
-enter-at t k input number line p z body w items o class region new is at class_is region_is shown_is tree new_is =
+enter-at t k input number line p z body giving w items o class region new is at class_is region_is shown_is tree new_is =
     let s = plain_of t (record k { items = items }) input in
-    next-at t (classes_of t) k input number line (enter (path_of t p) z body) (shown t items) shown_is tree
-    ∙ ap (stepped line) (is input (shown t items) line z body ∙ entered-at s w.place z body w.bridge o class region at class_is region_is)
+    next-at t (classes_of t) k input number line (enter (path_of t p) z body giving) (shown t items) shown_is tree
+    ∙ ap (stepped line) (is input (shown t items) line z body giving
+    ∙ entered-at s w.place z body (λ kept. leave_of line kept giving) w.bridge o class region at class_is region_is)
     ∙ ap Went (sym new_is)
 
 -- the object to which a value leads

@@ -9,3 +9,4 @@ abbrev pub HasRoom : Parts → Aim → Type 0
 HasRoom p (aim.Declares x ty) = length p.frame.locals.items < vec_capacity p.frame.locals
 HasRoom p (aim.Assigns x) = Unit {0}
 HasRoom p (aim.Field a x) = Unit {0}
+HasRoom p (aim.Element a k) = Unit {0}

@@ -7,7 +7,7 @@ ghost use Rattle.rg_tree.specs.Rows.Tables.{name_at};
 ghost use Rattle.rg_rules.specs.Capabilities.{is_iso};
 ghost use Rattle.rg_rules.specs.Environment.{same_variable};
 ghost use Rattle.rg_rules.specs.Evaluation.{is_iso_local};
-ghost use Rattle.rg_rules.specs.State.{place_in, set_in, value_in};
+ghost use Rattle.rg_rules.specs.State.{place_in, set_at, set_in, value_in};
 ghost use Rattle.rg_plain.specs.Shown.{AreNamed, locals_of};
 
 use crate::state::rows::LocalRow;
@@ -89,6 +89,19 @@ pub(crate) fn is_iso(book: &Book, locals: &[LocalRow], name: Option<u32>) -> boo
     }
 }
 
+/// Writes the variable at a place, where there is one.
+pub(crate) fn set_at(book: &Book, locals: &mut [LocalRow], place: usize, value: Val)
+    requires named { AreNamed book.now.program locals.old }
+    ensures set { locals_of book.now.program locals.new
+        ≡ set_at place value (locals_of book.now.program locals.old) }
+    ensures named { AreNamed book.now.program locals.new }
+{
+    if place < locals.len() {
+        let LocalRow { name, ty, .. } = locals[place];
+        locals[place] = LocalRow { name, ty, value };
+    }
+}
+
 /// Writes the variable of a name, where there is one.
 pub(crate) fn set(book: &Book, locals: &mut [LocalRow], name: Option<u32>, value: Val)
     requires named { AreNamed book.now.program locals.old }
@@ -98,10 +111,7 @@ pub(crate) fn set(book: &Book, locals: &mut [LocalRow], name: Option<u32>, value
     ensures named { AreNamed book.now.program locals.new }
 {
     let k = place(book, locals, name);
-    if k < locals.len() {
-        let LocalRow { name, ty, .. } = locals[k];
-        locals[k] = LocalRow { name, ty, value };
-    }
+    set_at(book, locals, k, value);
 }
 
 /// Keeps the first so many variables.

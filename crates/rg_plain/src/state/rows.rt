@@ -50,6 +50,9 @@ pub enum ItemRow {
     EndAt(usize),
     /// the end of the block of an `enter`: so many variables stay, and its window goes
     LeaveAt(usize),
+    /// the same, and what owned its region then leads to the object of a variable; the line is that
+    /// of the `enter`
+    LeaveGiving { line: u64, kept: usize, name: u32 },
     /// the end of a method without a result
     Back,
 }

@@ -1,4 +1,5 @@
-//! The steps of `let`, `x = r` and `q.f = r`, by their right sides (docs/language.md, "Steps").
+//! The steps of `let`, `x = r`, `q.f = r` and `q[e] = r`, by their right sides (docs/language.md,
+//! "Steps").
 
 ghost use Rattle.std.specs.Prelude.{◌≡◌, false};
 ghost use Rattle.rg_tree.specs.Rows.RowTrees.{expr_at, right_of};
@@ -13,7 +14,7 @@ ghost use Rattle.rg_plain.specs.Kept.{kept_of};
 use crate::state::parts::Parts;
 use crate::steps::call::result_step;
 use crate::steps::move_::{Move, move_step};
-use crate::steps::new::{Kind, new_step};
+use crate::steps::new::{Kind, Made, new_step};
 use crate::steps::refusal::Refusal;
 use crate::steps::targets::{Assignment, aim_of, make_room, put};
 use crate::values::expressions::value;
@@ -22,7 +23,8 @@ use rg_names::Book;
 use rg_tree::Right;
 use std::alloc::Global;
 
-/// Puts the value of an expression where it goes. In `q.f = e`, q is followed and tested first.
+/// Puts the value of an expression where it goes. What stands left of `=` is followed and tested
+/// first.
 pub(crate) fn value_step(
     book: &Book,
     m: &mut Parts,
@@ -60,12 +62,22 @@ pub(crate) fn right_step(
 {
     match right {
         Right::Expr(e) => value_step(book, m, to, e),
-        Right::New { name: class } => new_step(alloc, book, m, to, class, Kind::Plain),
-        Right::NewTmp { name: class } => new_step(alloc, book, m, to, class, Kind::Temporary),
+        Right::New { name, size } => {
+            let kind = Kind::Plain;
+            new_step(alloc, book, m, to, Made { name, size, kind })
+        }
+        Right::NewTmp { name, size } => {
+            let kind = Kind::Temporary;
+            new_step(alloc, book, m, to, Made { name, size, kind })
+        }
         Right::NewIso {
-            name: class,
+            name,
+            size,
             manager,
-        } => new_step(alloc, book, m, to, class, Kind::Owner(manager)),
+        } => {
+            let kind = Kind::Owner(manager);
+            new_step(alloc, book, m, to, Made { name, size, kind })
+        }
         Right::Call(row) => result_step(alloc, book, m, to, row),
         Right::Freeze(name) => move_step(alloc, book, m, to, name, Move::Freeze),
         Right::Merge(name) => move_step(alloc, book, m, to, name, Move::Merge),

@@ -149,7 +149,7 @@ pub(crate) fn call_step(
     call_named(alloc, book, m, at, TargetRow::Drops, row)
 }
 
-/// Where the result of a call goes later. No field takes one.
+/// Where the result of a call goes later. No field and no element takes one.
 fn sent_to(aim: Aim) -> TargetRow
     ensures target { (t : Tables) → target_of t result ≡ sent_to t aim }
     ensures fits { (t : Tables) (objects : ℕ) → AimFits t objects aim → TargetFits t result }
@@ -157,7 +157,7 @@ fn sent_to(aim: Aim) -> TargetRow
     match aim {
         Aim::Declares { name, ty } => TargetRow::Declares { name, ty },
         Aim::Assigns(name) => TargetRow::Assigns(name),
-        Aim::Field { .. } => TargetRow::Drops,
+        Aim::Field { .. } | Aim::Element { .. } => TargetRow::Drops,
     }
 }
 

@@ -1,26 +1,24 @@
-//! The steps of `enter x as z` and `enter q.f as z`, and of the end of their block
-//! (docs/language.md, "Steps").
+//! The steps of `enter x as z` and `enter q.f as z` (docs/language.md, "Steps").
 
-ghost use Rattle.std.specs.Prelude.{◌++◌, ◌+◌, ◌<◌, ◌^◌, ◌∷◌, ◌≡◌, ◌≤◌, [], IfSome, List, Some};
-ghost use Rattle.std.specs.Prelude.{false, length, slice_get, unwrap_or, vec_capacity, ℕ};
+ghost use Rattle.std.specs.Prelude.{◌+◌, ◌<◌, ◌^◌, ◌∷◌, ◌≡◌, ◌≤◌, IfSome, List, Some, length};
+ghost use Rattle.std.specs.Prelude.{option_map, slice_get, unwrap_or, vec_capacity, ℕ};
 ghost use Rattle.rg_base.specs.declared.object.Seen.{Seen};
 ghost use Rattle.rg_tree.specs.Rows.RowTrees.{block_of, classes_of, path_of};
 ghost use Rattle.rg_tree.specs.Rows.RowsExist.{IsBlockIn, IsNameIn, IsPathIn};
-ghost use Rattle.rg_tree.specs.Rows.Tables.{name_at};
+ghost use Rattle.rg_tree.specs.Rows.Tables.{Tables, name_at};
 ghost use Rattle.rg_tree.specs.Tree.{enter};
-ghost use Rattle.rg_rules.specs.Items.{LeaveAt};
+ghost use Rattle.rg_rules.specs.Items.{Item, leave_of};
 ghost use Rattle.rg_rules.specs.Steps.{with_window};
 ghost use Rattle.rg_rules.specs.Types.{field_place, fields_of};
 ghost use Rattle.rg_store.specs.Regions.{LabelsFit};
 ghost use Rattle.rg_store.specs.Shown.{store_of};
 ghost use Rattle.rg_plain.specs.Fits.{PartsFit};
-ghost use Rattle.rg_plain.specs.Inner.Steps.{GoesOn, Makes, Stands};
+ghost use Rattle.rg_plain.specs.Inner.Steps.{Makes, Stands};
 ghost use Rattle.rg_plain.specs.Inner.Windows.{BridgeIs, HasWindowRoom, OwnerIs};
-ghost use Rattle.rg_plain.specs.Kept.{ItemsFit, kept_of, plain_of, put_row, shown};
-ghost use Rattle.rg_plain.specs.Outcomes.{first_prints};
+ghost use Rattle.rg_plain.specs.Kept.{ItemFits, ItemsFit, kept_of, plain_of, put_row, shown};
 
-use crate::state::items::{At, advance, pop_row, put_block};
-use crate::state::locals::{keep, place, variable};
+use crate::state::items::{At, advance, put_block};
+use crate::state::locals::{place, variable};
 use crate::state::parts::Parts;
 use crate::state::rows::{ItemRow, LocalRow, WindowRow};
 use crate::steps::refusal::Refusal;
@@ -42,6 +40,16 @@ pub(crate) struct Owner {
 pub(crate) struct Bridge {
     pub(crate) class: u32,
     pub(crate) region: u64,
+}
+
+/// What an `enter` says round its block: its line, `q`, the name of the bridge and that of
+/// `giving`.
+#[derive(Clone, Copy)]
+pub struct Entrance {
+    pub line: u64,
+    pub path: Path,
+    pub name: u32,
+    pub giving: Option<u32>,
 }
 
 /// The place of a field among those of its class; one that isn't there has the first place.
@@ -91,35 +99,59 @@ fn owner_of(book: &Book, m: &Parts, path: Path) -> Result<Owner, Refusal>
     }
 }
 
-/// Puts the block of an `enter` in front, at whose end so many variables stay.
-fn open_entered(book: &Book, items: &mut Vec<ItemRow>, kept: usize, body: Span)
+/// The end of the block of an `enter` of a line, at which so many variables stay.
+fn leave_row(line: u64, kept: usize, giving: Option<u32>) -> ItemRow
+    ensures item { (t : Tables) (below : List Item) → put_row t result below
+        ≡ leave_of line kept (option_map (name_at t) giving) ∷ below }
+    ensures fit { (t : Tables) → IfSome giving (IsNameIn t) → ItemFits t result }
+{
+    match giving {
+        None => ItemRow::LeaveAt(kept),
+        Some(name) => ItemRow::LeaveGiving { line, kept, name },
+    }
+}
+
+/// Puts the block of an `enter` in front, with the row at its end.
+fn open_entered(book: &Book, items: &mut Vec<ItemRow>, leave: ItemRow, body: Span)
     requires room { length items.old.items + 2 ≤ vec_capacity items.old }
+    requires leave { ItemFits book.now.program leave }
     requires body { IsBlockIn book.now.program body }
     requires fit { ItemsFit book.now.program items.old.items }
     ensures shown { shown book.now.program items.new.items ≡ put_row book.now.program (ItemRow.Rest
-        body) (LeaveAt kept ∷ shown book.now.program items.old.items) }
+        body) (put_row book.now.program leave (shown book.now.program items.old.items)) }
     ensures fit { ItemsFit book.now.program items.new.items }
 {
-    items.push_reserved(ItemRow::LeaveAt(kept));
+    items.push_reserved(leave);
     put_block(book, items, body);
 }
 
 /// Opens a window onto a region, with a variable for its bridge and the items of the block.
-fn open_window(book: &Book, m: &mut Parts, owner: Owner, bridge: Bridge, name: u32, body: Span)
+fn open_window(
+    book: &Book,
+    m: &mut Parts,
+    owner: Owner,
+    bridge: Bridge,
+    entrance: Entrance,
+    body: Span,
+)
     requires fit { PartsFit book.now.program m.old }
     requires rooms { HasWindowRoom m.old }
     requires made { m.old.windows_made + 1 < 2 ^ 64 }
     requires region { bridge.region < length m.old.managers.items }
-    requires name { IsNameIn book.now.program name }
+    requires name { IsNameIn book.now.program entrance.name }
+    requires giving { IfSome entrance.giving (IsNameIn book.now.program) }
     requires body { IsBlockIn book.now.program body }
     ensures opened { (input : List ℕ) → plain_of book.now.program (kept_of m.new) input
         ≡ with_window (plain_of book.now.program (kept_of m.old) input) owner.place
-        (name_at book.now.program name) (block_of book.now.program body) owner.bridge bridge.class
-        (Some bridge.region) }
+        (name_at book.now.program entrance.name) (block_of book.now.program body)
+        (λ kept. leave_of entrance.line kept
+        (option_map (name_at book.now.program) entrance.giving))
+        owner.bridge bridge.class (Some bridge.region) }
     ensures fit { PartsFit book.now.program m.new }
 {
     let kept = m.frame.locals.len();
-    open_entered(book, &mut m.items, kept, body);
+    let leave = leave_row(entrance.line, kept, entrance.giving);
+    open_entered(book, &mut m.items, leave, body);
     m.outer.push_reserved(m.window);
     m.window = WindowRow {
         number: m.windows_made,
@@ -130,7 +162,7 @@ fn open_window(book: &Book, m: &mut Parts, owner: Owner, bridge: Bridge, name: u
     };
     m.windows_made += 1;
     m.frame.locals.push_reserved(LocalRow {
-        name: Some(name),
+        name: Some(entrance.name),
         ty: Ty::Ref {
             cap: Cap::Mut,
             class: bridge.class,
@@ -162,19 +194,21 @@ pub(crate) fn enter_step(
     book: &Book,
     m: &mut Parts,
     at: At,
-    path: Path,
-    name: u32,
+    entrance: Entrance,
     body: Span,
 ) -> Result<(), Refusal>
-    requires stands { Stands book.now.program m.old at (enter (path_of book.now.program path)
-        (name_at book.now.program name) (block_of book.now.program body)) }
-    requires path { IsPathIn book.now.program path }
-    requires name { IsNameIn book.now.program name }
+    requires stands { let t = book.now.program in Stands t m.old at
+        (enter (path_of t entrance.path) (name_at t entrance.name) (block_of t body)
+        (option_map (name_at t) entrance.giving)) }
+    requires line { entrance.line ≡ at.line }
+    requires path { IsPathIn book.now.program entrance.path }
+    requires name { IsNameIn book.now.program entrance.name }
+    requires giving { IfSome entrance.giving (IsNameIn book.now.program) }
     requires body { IsBlockIn book.now.program body }
     ensures step { Makes book.now.program (kept_of m.old) (kept_of m.new) at.line result }
     ensures fit { PartsFit book.now.program m.new }
 {
-    let owner = owner_of(book, m, path)?;
+    let owner = owner_of(book, m, entrance.path)?;
     let place = object_place(&m.store, owner.bridge)?;
     let Some(bridge) = bridge_at(&m.store, place) else {
         advance(book, &mut m.items, at.span, at.number);
@@ -187,23 +221,6 @@ pub(crate) fn enter_step(
     m.frame.locals.reserve(1)?;
     m.items.reserve(2)?;
     advance(book, &mut m.items, at.span, at.number);
-    open_window(book, m, owner, bridge, name, body);
+    open_window(book, m, owner, bridge, entrance, body);
     Ok(())
-}
-
-/// Ends the block of an `enter`: so many variables stay, and its window goes.
-pub(crate) fn leave_step(book: &Book, m: &mut Parts, kept: usize)
-    requires top { (below : List ItemRow) ×
-        (m.old.items.items ≡ below ++ ItemRow.LeaveAt kept ∷ []) }
-    requires fit { PartsFit book.now.program m.old }
-    ensures step { GoesOn book.now.program (kept_of m.old) (kept_of m.new) }
-    ensures quiet { first_prints (shown book.now.program m.old.items.items) ≡ false }
-    ensures fit { PartsFit book.now.program m.new }
-{
-    pop_row(book, &mut m.items, ItemRow::LeaveAt(kept));
-    let Some(window) = m.outer.pop() else {
-        return;
-    };
-    m.window = window;
-    keep(book, &mut m.frame.locals, kept);
 }

@@ -1,14 +1,16 @@
-//! The steps of `new C`, `new tmp C` and `new iso C in M` (docs/language.md, "Steps").
+//! The steps of `new C`, `new tmp C` and `new iso C in M`, and of each with a size
+//! (docs/language.md, "Steps").
 
-ghost use Rattle.std.specs.Prelude.{◌<◌, ◌≡◌, List, OnOk, length, vec_capacity, ℕ};
+ghost use Rattle.std.specs.Prelude.{◌<◌, ◌≡◌, IfSome, List, OnOk, length, vec_capacity, ℕ};
 ghost use Rattle.rg_tree.specs.Rows.RowTrees.{classes_of};
-ghost use Rattle.rg_tree.specs.Rows.RowsExist.{IsNameIn};
+ghost use Rattle.rg_tree.specs.Rows.RowsExist.{IsExprNumber, IsNameIn};
+ghost use Rattle.rg_rules.specs.RightSides.{array_size};
 ghost use Rattle.rg_tree.specs.Rows.Tables.{Tables};
 ghost use Rattle.rg_store.specs.Shown.{seen_of};
 ghost use Rattle.rg_store.specs.Regions.{LabelFits};
 ghost use Rattle.rg_plain.specs.Fits.{PartsFit};
+ghost use Rattle.rg_plain.specs.Inner.Makes.{HasRooms, ObjectIs, label_of, managers_with};
 ghost use Rattle.rg_plain.specs.Inner.Assignments.{AssignStands};
-ghost use Rattle.rg_plain.specs.Inner.Makes.{HasRooms, label_of, managers_with};
 ghost use Rattle.rg_plain.specs.Inner.Makes.{right_of, use_with, with_object};
 ghost use Rattle.rg_plain.specs.Inner.Spots.{AimFits};
 ghost use Rattle.rg_plain.specs.Inner.Steps.{Makes};
@@ -18,9 +20,10 @@ use crate::state::items::advance;
 use crate::state::parts::Parts;
 use crate::steps::refusal::Refusal;
 use crate::steps::targets::{Aim, Assignment, aim_of, make_room, put};
-use rg_base::{Label, Manager, Memory, Val};
+use crate::values::expressions::value;
+use rg_base::{ARRAY_SIZE, Label, Manager, Memory, Trap, Val};
 use rg_names::Book;
-use rg_store::{ObjectRow, new_object};
+use rg_store::{ObjectRow, as_int, new_array, new_object};
 use std::alloc::Global;
 
 /// What is made.
@@ -32,6 +35,14 @@ pub enum Kind {
     Temporary,
     /// `new iso C in M`: the first object of a new region
     Owner(Manager),
+}
+
+/// What `new` says: the name of a class, the number of elements where it has one, and the form.
+#[derive(Clone, Copy)]
+pub struct Made {
+    pub name: u32,
+    pub size: Option<u32>,
+    pub kind: Kind,
 }
 
 /// To what the new object belongs.
@@ -94,29 +105,70 @@ fn make(book: &Book, m: &mut Parts, aim: Aim, object: ObjectRow, kind: Kind)
     put(book, m, aim, Val::Obj(serial));
 }
 
+/// The number of elements that a value says, if an array can have so many.
+fn array_size(v: Val) -> Result<u32, Trap>
+    ensures { result ≡ array_size v }
+{
+    let number = as_int(v);
+    if number < 0 {
+        return Err(Trap::Size);
+    }
+    if number > i64::from(ARRAY_SIZE) {
+        return Err(Trap::Size);
+    }
+    Ok(number as u32)
+}
+
+/// The new object of a class, or the new array, whose size is computed first.
+fn object_of(
+    alloc: Global,
+    book: &Book,
+    m: &Parts,
+    class: u32,
+    made: Made,
+) -> Result<ObjectRow, Refusal>
+    requires fit { PartsFit book.now.program m.now }
+    requires class { class < length (classes_of book.now.program) }
+    requires size { IfSome made.size (IsExprNumber book.now.program) }
+    ensures { ObjectIs book.now.program (kept_of m.now) class made result }
+{
+    let label = label(m, made.kind);
+    match made.size {
+        None => {
+            let object = new_object(alloc, book, class, label)?;
+            Ok(object)
+        }
+        Some(e) => {
+            let v = value(book, &m.store, &m.frame.locals, e)?;
+            let size = array_size(v)?;
+            let object = new_array(alloc, book, class, size, label)?;
+            Ok(object)
+        }
+    }
+}
+
 /// Makes an object.
 pub(crate) fn new_step(
     alloc: Global,
     book: &Book,
     m: &mut Parts,
     to: Assignment,
-    name: u32,
-    kind: Kind,
+    made: Made,
 ) -> Result<(), Refusal>
-    requires assigns { AssignStands book.now.program m.old to
-        (right_of book.now.program name kind) }
-    requires name { IsNameIn book.now.program name }
+    requires assigns { AssignStands book.now.program m.old to (right_of book.now.program made) }
+    requires name { IsNameIn book.now.program made.name }
+    requires size { IfSome made.size (IsExprNumber book.now.program) }
     ensures step { Makes book.now.program (kept_of m.old) (kept_of m.new) to.at.line result }
     ensures fit { PartsFit book.now.program m.new }
 {
     let aim = aim_of(book, m, to.left)?;
-    let Some(class) = book.class_of(name) else {
+    let Some(class) = book.class_of(made.name) else {
         advance(book, &mut m.items, to.at.span, to.at.number);
         return Ok(());
     };
-    let object = new_object(alloc, book, class, label(m, kind))?;
+    let object = object_of(alloc, book, m, class, made)?;
     make_rooms(book, m, aim)?;
     advance(book, &mut m.items, to.at.span, to.at.number);
-    make(book, m, aim, object, kind);
+    make(book, m, aim, object, made.kind);
     Ok(())
 }

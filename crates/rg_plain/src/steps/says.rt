@@ -51,6 +51,7 @@ pub(crate) fn said(kind: StmtKind) -> Says
     match kind {
         StmtKind::Let { name, ty, right } => said_right(Left::Let { name, ty }, right),
         StmtKind::Set { path, right } => said_right(Left::Set(path), right),
+        StmtKind::SetAt { path, index, right } => said_right(Left::SetAt { path, index }, right),
         StmtKind::Print(e) => Says::Prints(e),
         StmtKind::If { .. } | StmtKind::While { .. } | StmtKind::Enter { .. } => Says::Nothing,
         StmtKind::Call(_) | StmtKind::Swap { .. } | StmtKind::Collect => Says::Nothing,

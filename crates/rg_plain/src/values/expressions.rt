@@ -11,7 +11,9 @@ use crate::state::rows::LocalRow;
 use crate::values::paths::path_value;
 use rg_base::{Trap, Val};
 use rg_names::Book;
-use rg_store::{ObjectRow, as_bool, decides, is_nil, negative, operate};
+use rg_store::{
+    ObjectRow, as_bool, decides, element_value, is_nil, negative, object_place, operate,
+};
 use rg_tree::ExprRow;
 
 /// The value of an expression.
@@ -51,6 +53,18 @@ pub(crate) fn value(
             }
             let w = value(book, store, locals, right)?;
             operate(op, v, w)
+        }
+        ExprRow::Size(path) => {
+            let v = path_value(book, store, locals, path)?;
+            let place = object_place(store, v)?;
+            Ok(Val::Int(store[place].fields.len() as i64))
+        }
+        ExprRow::At { path, index } => {
+            let v = path_value(book, store, locals, path)?;
+            let place = object_place(store, v)?;
+            let array = &store[place];
+            let i = value(book, store, locals, index)?;
+            element_value(array, i)
         }
     }
 }

@@ -50,7 +50,7 @@ pub(crate) fn method_of(book: &Book, class: u32, name: u32) -> Option<MethodRow>
     ensures { MethodIs book.now.program class (name_at book.now.program name) result }
 {
     let row = book.class(class);
-    let numbers = book.order(row.members);
+    let numbers = book.members_of(row);
     for member in numbers {
         if let Some(method) = as_method(book, *member, name) {
             return Some(method);

@@ -59,12 +59,14 @@ pub(crate) fn use_up(book: &Book, locals: &mut [LocalRow], e: u32)
     ensures named { AreNamed book.now.program locals.new }
 {
     match book.expr(e) {
-        ExprRow::Int(_) | ExprRow::Bool(_) | ExprRow::Nil | ExprRow::IsNil(_) => {}
+        ExprRow::Int(_) | ExprRow::Bool(_) | ExprRow::Nil => {}
+        ExprRow::IsNil(_) | ExprRow::Size(_) => {}
         ExprRow::Path(path) => use_path(book, locals, path),
         ExprRow::Neg(a) | ExprRow::Not(a) => use_up(book, locals, a),
         ExprRow::Binary { left, right, .. } => {
             use_up(book, locals, left);
             use_up(book, locals, right);
         }
+        ExprRow::At { index, .. } => use_up(book, locals, index),
     }
 }

@@ -10,7 +10,7 @@ use Rattle.rg_base.specs.declared.token.Token.{Token}
 use Rattle.rg_base.specs.Pieces.{is_blank}
 use Rattle.rg_base.specs.Tokens.{line_behind}
 use Rattle.rg_tree.specs.declared.counts.Counts.{Counts}
-use Rattle.rg_tree.specs.Tree.{Name, Variable, Path, Ty, int, bool, Right, read, more, Stmt, stmt, StmtKind, assign}
+use Rattle.rg_tree.specs.Tree.{Name, Variable, Path, Ty, int, bool, Expr, Right, read, more, Stmt, stmt, StmtKind, assign, assign_element}
 use Rattle.rg_tree.specs.Tree.{Else, Block, empty, then, Param, Member, Class, Tree}
 use Rattle.rg_tree.specs.Lineless.{kind_lineless, stmt_lineless, block_lineless, else_lineless, member_lineless, class_lineless, lineless}
 use Rattle.rg_tree.specs.Phrases.{the}
@@ -19,15 +19,16 @@ use Rattle.rg_tree.specs.Table.{row}
 use Rattle.rg_tree.specs.Operators.{plain_type_of, base_of, input_of}
 use Rattle.rg_tree.specs.Forms as form
 use Rattle.rg_tree.specs.Forms.{Form, Given}
-use Rattle.rg_tree.specs.Grammar.{Reads, assign_row}
+use Rattle.rg_tree.specs.Grammar.{Reads, assigned, assign_row}
 use Rattle.rg_print.proofs.Canon.Lexemes.{Lexeme, text_of, newline, base_lexeme, path_lexemes, braces, stmt_lexemes, kind_lexemes, else_lexemes}
 use Rattle.rg_print.proofs.Canon.Lexemes.{block_lexemes, more_param_lexemes, param_lexemes, result_lexemes, members_lexemes, one_class_lexemes}
-use Rattle.rg_print.proofs.Canon.Lexemes.{program_lexemes}
+use Rattle.rg_print.proofs.Canon.Lexemes.{giving_lexemes, rest_lexemes, program_lexemes}
 use Rattle.rg_print.proofs.Canon.LexemeCuts.{tokens_at, IsName, goes_on, StandApart}
 use Rattle.rg_print.proofs.Canon.FineTokens.{FineKind}
 use Rattle.rg_print.proofs.Canon.LexemesApart.{NamesPlain, BasePlain, PathPlain, TyPlain}
 use Rattle.rg_print.proofs.Canon.Readings.{ends-all, first_kind, Ends0, depth, Spelt, Read, path-read}
-use Rattle.rg_print.proofs.Canon.PartReads.{Fits, ArgsFit, CallFits, RightFits, leads}
+use Rattle.rg_print.proofs.Canon.PartReads.{Fits, ArgsFit, AtFits, CallFits, RightFits, leads}
+use Rattle.rg_print.proofs.Canon.SameLines.{rest_lineless}
 use Rattle.rg_print.proofs.Canon.ExprLimits.{depth_at}
 
 -- What begins a statement.
@@ -35,21 +36,29 @@ use Rattle.rg_print.proofs.Canon.ExprLimits.{depth_at}
 pub record StmtBegins (o : Option Kind) : Type 0 where
   pub stmts : row p.Stmts o ≡ Some (the p.Stmt ∷ the p.Stmts ∷ [])
   pub no_else : row p.Else o ≡ Some []
+  pub no_giving : row p.Giving o ≡ Some []
+
+-- a token that goes on no statement
+pub record EndsStmt (o : Option Kind) : Type 0 where
+  pub no_else : row p.Else o ≡ Some []
+  pub no_giving : row p.Giving o ≡ Some []
 
 -- paths and statements begin so
 pub base-begins : (b : Variable) (xs : List Lexeme) → StmtBegins (first_kind (base_lexeme b ∷ xs))
-base-begins None xs = record { stmts = refl; no_else = refl }
-base-begins (Some x) xs = record { stmts = refl; no_else = refl }
+base-begins None xs = record { stmts = refl; no_else = refl; no_giving = refl }
+base-begins (Some x) xs = record { stmts = refl; no_else = refl; no_giving = refl }
 
 pub stmt-begins : (n : ℕ) (a : Stmt) (rest : List Lexeme) → StmtBegins (first_kind (stmt_lexemes n a rest))
 stmt-begins n (stmt l (assign q r)) rest = base-begins q.base _
-stmt-begins n (stmt l _) rest = record { stmts = refl; no_else = refl }
+stmt-begins n (stmt l (assign_element q e r)) rest = base-begins q.base _
+stmt-begins n (stmt l _) rest = record { stmts = refl; no_else = refl; no_giving = refl }
 
--- no else comes behind a statement
+-- neither an else nor what is given comes behind a statement
 pub block-begins : (n : ℕ) (b : Block) (rest : List Lexeme) → first_kind rest ≡ Some (k.Mark s.CloseBrace)
-    → row p.Else (first_kind (block_lexemes n b rest)) ≡ Some []
-block-begins n empty rest h = rw h refl
-block-begins n (then a b) rest h = (stmt-begins n a (block_lexemes n b rest)).no_else
+    → EndsStmt (first_kind (block_lexemes n b rest))
+block-begins n empty rest h = rw h (record { no_else = refl; no_giving = refl })
+block-begins n (then a b) rest h =
+    let r = stmt-begins n a (block_lexemes n b rest) in record { no_else = r.no_else; no_giving = r.no_giving }
 
 -- What ends an expression.
 
@@ -110,7 +119,7 @@ module _ (S : List ℕ) where
 
   pub record KindWritten (c : Counts) (a : StmtKind) (d : Counts) : Type 0 where
     pub apart : (n : ℕ) (rest : List Lexeme) → StandApart rest → StandApart (kind_lexemes n a rest)
-    pub reads : (n from line : ℕ) (rest : List Lexeme) → row p.Else (first_kind rest) ≡ Some [] → Spelt S from (kind_lexemes n a rest)
+    pub reads : (n from line : ℕ) (rest : List Lexeme) → EndsStmt (first_kind rest) → Spelt S from (kind_lexemes n a rest)
         → KindRead c (tokens_at from line (kind_lexemes n a rest)) a d rest
 
   pub record BlockWritten (c : Counts) (b : Block) (d : Counts) : Type 0 where
@@ -127,6 +136,11 @@ module _ (S : List ℕ) where
     pub apart : (n : ℕ) (rest : List Lexeme) → StandApart rest → StandApart (else_lexemes n o rest)
     pub reads : (n from line : ℕ) (rest : List Lexeme) → row p.Else (first_kind rest) ≡ Some [] → Spelt S from (else_lexemes n o rest)
         → Alike form.Else else_lineless c (tokens_at from line (else_lexemes n o rest)) o d rest
+
+  pub record GivingWritten (c : Counts) (o : Option Name) (d : Counts) : Type 0 where
+    pub apart : (rest : List Lexeme) → StandApart rest → StandApart (giving_lexemes o rest)
+    pub reads : (from line : ℕ) (rest : List Lexeme) → row p.Giving (first_kind rest) ≡ Some [] → Spelt S from (giving_lexemes o rest)
+        → Read S form.Giving c (tokens_at from line (giving_lexemes o rest)) o d rest
 
   pub record MoreParamsWritten (c : Counts) (ps : List Param) (d : Counts) : Type 0 where
     pub apart : (rest : List Lexeme) → goes_on (text_of rest) ≡ false → StandApart rest → StandApart (more_param_lexemes ps rest)
@@ -148,6 +162,11 @@ module _ (S : List ℕ) where
     pub reads : (from line : ℕ) (rest : List Lexeme) → first_kind rest ≡ Some (k.Mark s.CloseBrace) → Spelt S from (members_lexemes ms rest)
         → Alike form.Members (map member_lineless) c (tokens_at from line (members_lexemes ms rest)) ms d rest
 
+  pub record ClassRestWritten (c : Counts) (a : Given form.ClassRest) (d : Counts) : Type 0 where
+    pub apart : (rest : List Lexeme) → StandApart rest → StandApart (rest_lexemes a.0 a.1 rest)
+    pub reads : (from line : ℕ) (rest : List Lexeme) → Spelt S from (rest_lexemes a.0 a.1 rest)
+        → Alike form.ClassRest rest_lineless c (tokens_at from line (rest_lexemes a.0 a.1 rest)) a d rest
+
   pub record ClassWritten (c : Counts) (a : Class) (d : Counts) : Type 0 where
     pub apart : (rest : List Lexeme) → StandApart rest → StandApart (one_class_lexemes a rest)
     pub reads : (from line : ℕ) (rest : List Lexeme) → Spelt S from (one_class_lexemes a rest)
@@ -162,6 +181,7 @@ module _ (S : List ℕ) where
   abbrev pub Told : (f : Form) → Counts → Given f → Counts → Type 0
   Told form.Program c a d = ProgramWritten c a d
   Told form.Class c a d = ClassWritten c a d
+  Told form.ClassRest c a d = ClassRestWritten c a d
   Told form.Members c a d = MembersWritten c a d
   Told form.Cap c a d = c ≡ d
   Told form.Type' c a d = TyPlain a × (c ≡ d)
@@ -172,6 +192,8 @@ module _ (S : List ℕ) where
   Told form.Block c a d = BracesWritten c a d
   Told form.Stmts c a d = BlockWritten c a d
   Told form.Stmt c a d = KindWritten c (kind_of a) d
+  Told form.At c a d = AtFits c a d
+  Told form.Giving c a d = GivingWritten c a d
   Told form.Else c a d = ElseWritten c a d
   Told form.Path c a d = PathPlain a × (c ≡ d)
   Told form.Fields c a d = NamesPlain a × (c ≡ d)
@@ -203,7 +225,7 @@ module _ (S : List ℕ) where
   stmt-apart n (stmt l x) c d h rest r = (blanks-blank (2 * n), h.apart n (newline ∷ rest) (refl, r))
 
   pub stmt-read : (n : ℕ) (a : Stmt) (c d : Counts) → KindWritten c (kind_of a) d → (from line : ℕ) (rest : List Lexeme)
-      → row p.Else (first_kind rest) ≡ Some [] → Spelt S from (stmt_lexemes n a rest)
+      → EndsStmt (first_kind rest) → Spelt S from (stmt_lexemes n a rest)
       → Alike form.Stmt stmt_lineless c (tokens_at from line (stmt_lexemes n a rest)) a d rest
   stmt-read n (stmt l x) c d h from line rest m y =
       let blanks = replicate {A = ℕ} (2 * n) 32 in
@@ -220,9 +242,10 @@ module _ (S : List ℕ) where
   path-reads q c d e from line rest m h = leads S c c d e (path-read S c q.base q.fields from line rest m h)
 
   -- an assignment, by what begins its path
-  pub assigned : (b : Variable) (c d e : Counts) (from line : ℕ) (xs : List Lexeme) (u v : Token) (us vs : List Token) (q : Path) (r : Right)
-      → Reads S form.Path c (tokens_at from line (base_lexeme b ∷ xs)) q d (u ∷ us) → u.kind ≡ k.Mark s.Assign
-      → Reads S form.Right d us r e (v ∷ vs) → v.kind ≡ k.Mark s.Semicolon
-      → (l : ℕ) × Reads S form.Stmt c (tokens_at from line (base_lexeme b ∷ xs)) (stmt l (assign q r)) e vs
-  assigned None c d e from line xs u v us vs q r x i y j = (line, assign_row x i y j)
-  assigned (Some n) c d e from line xs u v us vs q r x i y j = (line, assign_row x i y j)
+  pub assign-reads : (b : Variable) (c d e f : Counts) (from line : ℕ) (xs : List Lexeme) (u v : Token) (us vs ws : List Token) (q : Path)
+      (o : Option Expr) (r : Right)
+      → Reads S form.Path c (tokens_at from line (base_lexeme b ∷ xs)) q d us → Reads S form.At d us o e (u ∷ vs) → u.kind ≡ k.Mark s.Assign
+      → Reads S form.Right e vs r f (v ∷ ws) → v.kind ≡ k.Mark s.Semicolon
+      → (l : ℕ) × Reads S form.Stmt c (tokens_at from line (base_lexeme b ∷ xs)) (stmt l (assigned q o r)) f ws
+  assign-reads None c d e f from line xs u v us vs ws q o r x z i y j = (line, assign_row x z i y j)
+  assign-reads (Some n) c d e f from line xs u v us vs ws q o r x z i y j = (line, assign_row x z i y j)

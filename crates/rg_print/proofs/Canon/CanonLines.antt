@@ -1,9 +1,9 @@
 -- The canonical text of a program doesn't speak of its lines.
-use Rattle.std.proofs.Common.{◌≡◌, ℕ, suc, List, [], ◌∷◌, map, refl, sym, ◌∙◌, ap}
+use Rattle.std.proofs.Common.{◌≡◌, ℕ, suc, List, [], ◌∷◌, map, Option, Some, None, refl, sym, ◌∙◌, ap}
 use Rattle.std.specs.Prelude.{flat_map}
-use Rattle.rg_tree.specs.Tree.{Stmt, stmt, StmtKind, declare, assign, call, swap, branch, while, enter, print, collect, return, Else, no_else}
-use Rattle.rg_tree.specs.Tree.{otherwise, Block, empty, then, Member, field, method, Class, Tree}
-use Rattle.rg_tree.specs.Canonical.{stmt_text, kind_text, else_text, block_text, member_text, class_text, canon}
+use Rattle.rg_tree.specs.Tree.{Ty, Stmt, stmt, StmtKind, branch, while, enter, Else, no_else, otherwise, Block, empty, then, Member, field, method}
+use Rattle.rg_tree.specs.Tree.{Class, Tree}
+use Rattle.rg_tree.specs.Canonical.{stmt_text, kind_text, else_text, block_text, member_text, rest_text, class_text, canon}
 use Rattle.rg_tree.specs.Lineless.{stmt_lineless, kind_lineless, else_lineless, block_lineless, member_lineless, class_lineless, lineless}
 
 -- statements, else and blocks
@@ -14,7 +14,7 @@ mutual
   kind-lineless : (d : ℕ) (k : StmtKind) → kind_text d (kind_lineless k) ≡ kind_text d k
   kind-lineless d (branch e b o) = let x = block-lineless (suc d) b in let y = else-lineless d o in rw (x, y) refl
   kind-lineless d (while e b) = let x = block-lineless (suc d) b in rw x refl
-  kind-lineless d (enter q n b) = let x = block-lineless (suc d) b in rw x refl
+  kind-lineless d (enter q n b o) = let x = block-lineless (suc d) b in rw x refl
   kind-lineless d _ = refl
 
   else-lineless : (d : ℕ) (o : Else) → else_text d (else_lineless o) ≡ else_text d o
@@ -34,8 +34,12 @@ members-lineless : (ms : List Member) → flat_map member_text (map member_linel
 members-lineless [] = refl
 members-lineless (m ∷ ms) = let x = member-lineless m in let y = members-lineless ms in rw (x, y) refl
 
+rest-lineless : (o : Option Ty) (ms : List Member) → rest_text o (map member_lineless ms) ≡ rest_text o ms
+rest-lineless None ms = let x = members-lineless ms in rw x refl
+rest-lineless (Some t) ms = refl
+
 class-lineless : (k : Class) → class_text (class_lineless k) ≡ class_text k
-class-lineless k = let x = members-lineless k.members in rw x refl
+class-lineless k = let x = rest-lineless k.element k.members in rw x refl
 
 classes-lineless : (ks : List Class) → flat_map class_text (map class_lineless ks) ≡ flat_map class_text ks
 classes-lineless [] = refl

@@ -1,5 +1,5 @@
 -- What a source spells, its lexemes spell: each reading from a source tells it.
-use Rattle.std.proofs.Common.{◌≡◌, ℕ, suc, ◌+◌, ◌*◌, true, false, List, [], ◌∷◌, ◌++◌, length, replicate, refl, sym, ◌∙◌, ap}
+use Rattle.std.proofs.Common.{◌≡◌, ℕ, suc, ◌+◌, ◌*◌, true, false, List, [], ◌∷◌, ◌++◌, length, replicate, None, Some, refl, sym, ◌∙◌, ap}
 use Rattle.std.proofs.Common.{subst, arith}
 use Rattle.rg_base.specs.declared.words.Keyword.TheVariants as w
 use Rattle.rg_base.specs.declared.words.Sign.TheVariants as s
@@ -8,13 +8,14 @@ use Rattle.rg_base.specs.declared.token.Token.{Token}
 use Rattle.rg_base.specs.Tokens.{line_behind}
 use Rattle.rg_tree.specs.declared.rows.BinOp.TheVariants.{Or, And}
 use Rattle.rg_tree.specs.declared.counts.Counts.{Counts}
-use Rattle.rg_tree.specs.Tree.{Name, declare, assign, call, swap, branch, while, enter, print, collect, return, no_else, otherwise, empty}
-use Rattle.rg_tree.specs.Tree.{then, field, method, Tree}
+use Rattle.rg_tree.specs.Tree.{Name, size, declare, assign, assign_element, call, swap, branch, while, enter, print, collect, return, no_else}
+use Rattle.rg_tree.specs.Tree.{otherwise, empty, then, field, method, Tree}
 use Rattle.rg_tree.specs.Lineless.{stmt_lineless, block_lineless, else_lineless, class_lineless, lineless}
 use Rattle.rg_tree.specs.Counts.{no_signs}
 use Rattle.rg_tree.specs.Forms as form
 use Rattle.rg_tree.specs.Forms.{Form, Given}
-use Rattle.rg_tree.specs.Grammar.{Reads, text, with_class, program_class, program_main, class_row, tmp_class_row, field_row, method_row, no_members}
+use Rattle.rg_tree.specs.Grammar.{Reads, text, with_class, program_class, program_main, class_row, tmp_class_row, members_row, element_row}
+use Rattle.rg_tree.specs.Grammar.{field_row, method_row, no_members, at_row, no_at, giving_row, no_giving, size_row, element_of}
 use Rattle.rg_tree.specs.Grammar.{cap_row, plain_type, ref_type, first_param, no_params, next_param, no_more_params, some_result, no_result}
 use Rattle.rg_tree.specs.Grammar.{manager_row, block_row, no_stmts, more_stmts, let_row, assign_row, call_row, swap_row, if_row, while_row, enter_row}
 use Rattle.rg_tree.specs.Grammar.{print_row, collect_row, return_row, else_row, else_none, path_row, next_field, no_fields, new_row, freeze_row}
@@ -22,19 +23,21 @@ use Rattle.rg_tree.specs.Grammar.{merge_row, input_row, result_row, value_row, n
 use Rattle.rg_tree.specs.Grammar.{call_further, call_args, no_args, first_arg, next_arg, no_more_args, expr_row, or_row, no_or, and_row, and_further}
 use Rattle.rg_tree.specs.Grammar.{no_and, not_row, no_not, cmp_row, compared, not_compared, sum_row, sum_further, no_sum, mul_row, mul_further}
 use Rattle.rg_tree.specs.Grammar.{no_mul, minus, no_minus, literal, parens, path_value, is_row, no_is}
-use Rattle.rg_print.proofs.Canon.Lexemes.{word, mark, named, space, newline, indent, dotted, right_lexemes, braces, stmt_lexemes, else_lexemes}
-use Rattle.rg_print.proofs.Canon.Lexemes.{block_lexemes, more_param_lexemes, param_lexemes, result_lexemes, members_lexemes, program_lexemes}
+use Rattle.rg_print.proofs.Canon.Lexemes.{word, mark, named, space, newline, indent, dotted, index_lexemes, right_lexemes, giving_lexemes, braces}
+use Rattle.rg_print.proofs.Canon.Lexemes.{stmt_lexemes, else_lexemes, block_lexemes, more_param_lexemes, param_lexemes, result_lexemes}
+use Rattle.rg_print.proofs.Canon.Lexemes.{members_lexemes, program_lexemes}
 use Rattle.rg_print.proofs.Canon.LexemeCuts.{token_at, tokens_at}
 use Rattle.rg_print.proofs.Canon.FineTokens.{AreFine}
-use Rattle.rg_print.proofs.Canon.LexemesApart.{path-apart, ty-apart, expr-apart, call-apart, right-apart}
+use Rattle.rg_print.proofs.Canon.LexemesApart.{path-apart, ty-apart, expr-apart, index-apart, call-apart, right-apart}
 use Rattle.rg_print.proofs.Canon.Readings.{next-tokens_at}
 use Rattle.rg_print.proofs.Canon.SameLines.{name-of, names-push, class-same, field-same, method-same}
-use Rattle.rg_print.proofs.Canon.PartReads.{Fits, CallFits, call-plain, right-plain, leads, cap-read, manager-read, ty-read, expr-read, call-read}
-use Rattle.rg_print.proofs.Canon.PartReads.{right-read}
-use Rattle.rg_print.proofs.Canon.ExprLimits.{depth_at, looser, loosest, at_zero, binary-fits, parens-fits, literal-fits, path-fits, is_nil-fits}
+use Rattle.rg_print.proofs.Canon.PartReads.{Fits, AtFits, CallFits, call-plain, right-plain, leads, cap-read, manager-read, ty-read, expr-read}
+use Rattle.rg_print.proofs.Canon.PartReads.{index-read, call-read, right-read}
+use Rattle.rg_print.proofs.Canon.ExprLimits.{depth_at, looser, loosest, at_zero, binary-fits, parens-fits, literal-fits, path-fits}
+use Rattle.rg_print.proofs.Canon.ExprLimits.{is_nil-fits, size-fits, element-fits}
 use Rattle.rg_print.proofs.Canon.ExprLimits.{comparison-levels, sum-levels, product-levels, operator-fits}
 use Rattle.rg_print.proofs.Canon.CanonFacts.{stmt-begins, block-begins, ends-brace, ends-semicolon, blanks-blank, more_params-goes, plain_type-plain}
-use Rattle.rg_print.proofs.Canon.CanonFacts.{base-plain, input-fits, ProgramWritten, Told, stmt-apart, stmt-read, path-reads, assigned}
+use Rattle.rg_print.proofs.Canon.CanonFacts.{base-plain, input-fits, ProgramWritten, Told, stmt-apart, stmt-read, path-reads, assign-reads}
 
 module _ (S source : List ℕ) where
   -- each reading tells it
@@ -82,53 +85,88 @@ module _ (S source : List ℕ) where
         },
         q.1,
       )
-  told (class_row {u = u} {ms = ms} e f h i j x l) fine =
-      let r = told x fine.1.1.1 in
+  told (class_row {u = u} {r = a} e f h x) fine =
+      let r = told x fine.1.1 in
       let n = text source u in
       let name = name-of source u f fine.1.0 in (
         record {
-          apart = λ rest y. (refl, (refl, (name, refl, (refl, (tt, (refl, r.0.apart (mark s.CloseBrace ∷ newline ∷ rest) (tt, (refl, y))))))));
+          apart = λ rest y. (refl, (refl, (name, refl, (refl, r.0.apart rest y))));
           reads = λ from line rest y.
-              let q = r.0.reads (from + 5 + 1 + length n + 1 + 1 + 1) (line_behind line (10 ∷ [])) (mark s.CloseBrace ∷ newline ∷ rest) refl y.1 in
+              let q = r.0.reads (from + 5 + 1 + length n + 1) line rest y.1 in
               record {
-                tree = record { name = text S (token_at k.Name (from + 5 + 1) (length n) line); is_tmp = false; members = q.tree; line = line };
-                same = class-same false (text S (token_at k.Name (from + 5 + 1) (length n) line)) n q.tree ms line 0 y.0 q.same;
+                tree = record {
+                  name = text S (token_at k.Name (from + 5 + 1) (length n) line);
+                  is_tmp = false;
+                  element = q.tree.0;
+                  members = q.tree.1;
+                  line = line;
+                };
+                same = class-same false (text S (token_at k.Name (from + 5 + 1) (length n) line)) n q.tree a line 0 y.0 q.same;
+                read = record { from = q.read.from; line = q.read.line; spelt = q.read.spelt; reads = class_row refl refl h q.read.reads };
+              };
+        },
+        r.1,
+      )
+  told (tmp_class_row {u = u} {r = a} e m f h x) fine =
+      let r = told x fine.1.1.1 in
+      let n = text source u in
+      let name = name-of source u f fine.1.1.0 in (
+        record {
+          apart = λ rest y. (refl, (refl, (refl, (refl, (name, refl, (refl, r.0.apart rest y))))));
+          reads = λ from line rest y.
+              let q = r.0.reads (from + 3 + 1 + 5 + 1 + length n + 1) line rest y.1 in
+              record {
+                tree = record {
+                  name = text S (token_at k.Name (from + 3 + 1 + 5 + 1) (length n) line);
+                  is_tmp = true;
+                  element = q.tree.0;
+                  members = q.tree.1;
+                  line = line;
+                };
+                same = class-same true (text S (token_at k.Name (from + 3 + 1 + 5 + 1) (length n) line)) n q.tree a line 0 y.0 q.same;
+                read = record { from = q.read.from; line = q.read.line; spelt = q.read.spelt; reads = tmp_class_row refl refl refl h q.read.reads };
+              };
+        },
+        r.1,
+      )
+  told (members_row {ms = ms} e h x f) fine =
+      let r = told x fine.1 in (
+        record {
+          apart = λ rest y. (tt, (refl, r.0.apart (mark s.CloseBrace ∷ newline ∷ rest) (tt, (refl, y))));
+          reads = λ from line rest y.
+              let q = r.0.reads (from + 1 + 1) (line_behind line (10 ∷ [])) (mark s.CloseBrace ∷ newline ∷ rest) refl y in
+              record {
+                tree = (None, q.tree);
+                same = let e = q.same in cc;
                 read = record {
                   from = q.read.from + 1 + 1;
                   line = line_behind q.read.line (10 ∷ []);
                   spelt = q.read.spelt;
-                  reads = class_row refl refl h refl j q.read.reads refl;
+                  reads = members_row refl h q.read.reads refl;
                 };
               };
         },
         r.1.1,
       )
-  told (tmp_class_row {u = u} {ms = ms} e m f h i j x l) fine =
-      let r = told x fine.1.1.1.1 in
-      let n = text source u in
-      let name = name-of source u f fine.1.1.0 in (
+  told (element_row {y = y} e h x f i) fine =
+      let r = told x fine.1 in (
         record {
-          apart = λ rest y. (refl, (refl, (refl, (refl, (name, refl, (refl, (tt, (refl, r.0.apart (mark s.CloseBrace ∷ newline ∷ rest) (tt, (refl, y))))))))));
-          reads = λ from line rest y.
-              let q = r.0.reads (from + 3 + 1 + 5 + 1 + length n + 1 + 1 + 1) (line_behind line (10 ∷ []))
-              (mark s.CloseBrace ∷ newline ∷ rest) refl y.1 in
+          apart = λ rest v.
+              (tt, ty-apart y (mark s.CloseBracket ∷ mark s.Semicolon ∷ newline ∷ rest) r.0.0 refl (tt, (tt, (refl, v))));
+          reads = λ from line rest v.
+              let u = leads S _ _ _ r.0.1 (ty-read S y _ (from + 1) line (mark s.CloseBracket ∷ mark s.Semicolon ∷ newline ∷ rest) v) in
               record {
-                tree = record {
-                  name = text S (token_at k.Name (from + 3 + 1 + 5 + 1) (length n) line);
-                  is_tmp = true;
-                  members = q.tree;
-                  line = line;
-                };
-                same = class-same true (text S (token_at k.Name (from + 3 + 1 + 5 + 1) (length n) line)) n q.tree ms line 0 y.0 q.same;
+                tree = (Some y, []);
+                same = refl;
                 read = record {
-                  from = q.read.from + 1 + 1;
-                  line = line_behind q.read.line (10 ∷ []);
-                  spelt = q.read.spelt;
-                  reads = tmp_class_row refl refl refl h refl j q.read.reads refl;
+                  from = u.from + 1 + 1 + 1;
+                  line = line_behind u.line (10 ∷ []);
+                  spelt = u.spelt;
+                  reads = element_row refl h u.reads refl refl;
                 };
               };
         },
-        r.1.1,
+        r.1.1.1,
       )
   told (field_row {t = t} {y = y} {ms = ms} e h i x j z) fine =
       let r = told x fine.1.1 in
@@ -395,21 +433,48 @@ module _ (S source : List ℕ) where
         },
         q.1.1,
       )
-  told (assign_row {q = p0} {r = a} x e y f) fine =
+  told (assign_row {q = p0} {o = None} {r = a} x z e y f) fine =
       let r = told x fine in
-      let q = told y r.1.1 in (
+      let n = told z r.1 in
+      let q = told y n.1.1 in (
         record {
           apart = λ d rest v. path-apart p0 (space ∷ mark s.Assign ∷ space ∷ right_lexemes a (mark s.Semicolon ∷ rest)) r.0.0 refl
               (refl, (refl, (refl, right-apart a (mark s.Semicolon ∷ rest) (right-plain a _ _ q.0) refl (tt, v))));
           reads = λ d from line rest m v.
               let after = right_lexemes a (mark s.Semicolon ∷ rest) in
-              let o = path-reads S p0 _ _ r.0.1 from line (space ∷ mark s.Assign ∷ space ∷ after) refl v in
+              let o = path-reads S p0 _ _ (r.0.1 ∙ n.0) from line (space ∷ mark s.Assign ∷ space ∷ after) refl v in
               let g = right-read S a _ _ (o.from + 1 + 1 + 1) o.line (mark s.Semicolon ∷ rest) q.0 ends-semicolon o.spelt in
-              let w = assigned S p0.base _ _ _ from line (dotted p0.fields
-              (space ∷ mark s.Assign ∷ space ∷ after)) _ _ _ _ p0 a o.reads refl g.reads refl in
+              let w = assign-reads S p0.base _ _ _ _ from line (dotted p0.fields
+              (space ∷ mark s.Assign ∷ space ∷ after)) _ _ _ _ _ p0 None a o.reads (no_at refl) refl g.reads refl in
               record {
                 at = w.0;
                 kind = assign p0 a;
+                same = refl;
+                read = record { from = g.from + 1; line = g.line; spelt = g.spelt; reads = w.1 };
+              };
+        },
+        q.1.1,
+      )
+  told (assign_row {q = p0} {o = Some i} {r = a} x z e y f) fine =
+      let r = told x fine in
+      let n = told z r.1 in
+      let q = told y n.1.1 in (
+        record {
+          apart = λ d rest v.
+              let after = space ∷ mark s.Assign ∷ space ∷ right_lexemes a (mark s.Semicolon ∷ rest) in
+              path-apart p0 (index_lexemes i after) r.0.0 refl
+              (index-apart i after n.0.inner.plain
+              (refl, (refl, (refl, right-apart a (mark s.Semicolon ∷ rest) (right-plain a _ _ q.0) refl (tt, v)))));
+          reads = λ d from line rest m v.
+              let after = space ∷ mark s.Assign ∷ space ∷ right_lexemes a (mark s.Semicolon ∷ rest) in
+              let o = path-reads S p0 _ _ r.0.1 from line (index_lexemes i after) refl v in
+              let l = index-read S i _ _ o.from o.line after n.0 o.spelt in
+              let g = right-read S a _ _ (l.from + 1 + 1 + 1) l.line (mark s.Semicolon ∷ rest) q.0 ends-semicolon l.spelt in
+              let w = assign-reads S p0.base _ _ _ _ from line (dotted p0.fields
+              (index_lexemes i after)) _ _ _ _ _ p0 (Some i) a o.reads l.reads refl g.reads refl in
+              record {
+                at = w.0;
+                kind = assign_element p0 i a;
                 same = refl;
                 read = record { from = g.from + 1; line = g.line; spelt = g.spelt; reads = w.1 };
               };
@@ -464,7 +529,7 @@ module _ (S source : List ℕ) where
           reads = λ d from line rest m v.
               let i = expr-read S a _ _ (from + 2 + 1) line (space ∷ braces d (block_lexemes (suc d) b) (else_lexemes d o rest)) r.0 ends-brace v in
               let j = q.0.reads d (i.from + 1) i.line (else_lexemes d o rest) i.spelt in
-              let l = t.0.reads d j.read.from j.read.line rest m j.read.spelt in
+              let l = t.0.reads d j.read.from j.read.line rest m.no_else j.read.spelt in
               record {
                 at = line;
                 kind = branch a j.tree l.tree;
@@ -496,38 +561,40 @@ module _ (S source : List ℕ) where
         },
         q.1,
       )
-  told (enter_row {v = t} {q = p0} {b = b} e x f h i y) fine =
+  told (enter_row {v = t} {q = p0} {b = b} {o = g} e x f h i y z) fine =
       let r = told x fine.1 in
       let q = told y r.1.1.1 in
+      let l = told z q.1 in
       let n = text source t in
       let name = name-of source t h r.1.1.0 in (
         record {
-          apart = λ d rest v. (
-            refl,
-            (
-              refl,
-              path-apart p0 (space ∷ word w.As ∷ space ∷ named n ∷ space ∷ braces d (block_lexemes
-                  (suc d) b) rest) r.0.0 refl
-                  (refl, (refl, (refl, (name, refl, (refl, q.0.apart d rest v))))),
-            ),
-          );
+          apart = λ d rest v.
+              let body = space ∷ braces d (block_lexemes (suc d) b) (giving_lexemes g rest) in (
+                refl,
+                (
+                  refl,
+                  path-apart p0 (space ∷ word w.As ∷ space ∷ named n ∷ body) r.0.0 refl
+                      (refl, (refl, (refl, (name, refl, (refl, q.0.apart d (giving_lexemes g rest) (l.0.apart rest v)))))),
+                ),
+              );
           reads = λ d from line rest m v.
-              let o = path-reads S p0 _ _ r.0.1 (from + 5 + 1) line (space ∷ word w.As ∷ space ∷ named n ∷ space ∷ braces d (block_lexemes
-              (suc d) b) rest) refl v in
-              let j = q.0.reads d (o.from + 1 + 2 + 1 + length n + 1) o.line rest o.spelt.1 in
+              let body = space ∷ braces d (block_lexemes (suc d) b) (giving_lexemes g rest) in
+              let o = path-reads S p0 _ _ r.0.1 (from + 5 + 1) line (space ∷ word w.As ∷ space ∷ named n ∷ body) refl v in
+              let j = q.0.reads d (o.from + 1 + 2 + 1 + length n + 1) o.line (giving_lexemes g rest) o.spelt.1 in
+              let u = l.0.reads j.read.from j.read.line rest m.no_giving j.read.spelt in
               record {
                 at = line;
-                kind = enter p0 (text S (token_at k.Name (o.from + 1 + 2 + 1) (length n) o.line)) j.tree;
-                same = ap (λ z. enter p0 z (block_lineless j.tree)) o.spelt.0 ∙ ap (enter p0 n) j.same;
+                kind = enter p0 (text S (token_at k.Name (o.from + 1 + 2 + 1) (length n) o.line)) j.tree g;
+                same = ap (λ z. enter p0 z (block_lineless j.tree) g) o.spelt.0 ∙ ap (λ z. enter p0 n z g) j.same;
                 read = record {
-                  from = j.read.from;
-                  line = j.read.line;
-                  spelt = j.read.spelt;
-                  reads = enter_row refl o.reads refl refl i j.read.reads;
+                  from = u.from;
+                  line = u.line;
+                  spelt = u.spelt;
+                  reads = enter_row refl o.reads refl refl i j.read.reads u.reads;
                 };
               };
         },
-        q.1,
+        l.1,
       )
   told (print_row {a = a} e x f) fine =
       let r = told x fine.1 in (
@@ -571,6 +638,32 @@ module _ (S source : List ℕ) where
         },
         r.1.1,
       )
+  told (at_row {d = d} {e = g} e h x f) fine =
+      let r = told x fine.1 in
+      (record { within = d; opens = h; behind = g; inner = r.0; closes = refl }, r.1.1)
+  told (no_at e) fine = (refl, fine)
+  told (giving_row {c = c} {u = u} e f h) fine =
+      let n = text source u in
+      let name = name-of source u f fine.1.0 in (
+        record {
+          apart = λ rest v. (refl, (refl, (refl, (name, refl, (tt, v)))));
+          reads = λ from line rest m v. record {
+            from = from + 1 + 6 + 1 + length n + 1;
+            line = line;
+            spelt = v.1;
+            reads = subst (λ w. Reads S form.Giving c (tokens_at from line (giving_lexemes (Some n) rest)) (Some w) c
+                (tokens_at (from + 1 + 6 + 1 + length n + 1) line rest)) v.0 (giving_row refl refl refl);
+          };
+        },
+        fine.1.1.1,
+      )
+  told (no_giving e) fine = (
+    record {
+      apart = λ rest v. v;
+      reads = λ from line rest m v. record { from = from; line = line; spelt = v; reads = no_giving (rw (next-tokens_at from line rest) m) };
+    },
+    fine,
+  )
   told (else_row {b = b} e x) fine =
       let r = told x fine.1 in (
         record {
@@ -607,9 +700,12 @@ module _ (S source : List ℕ) where
   told (input_row {c = c} {t = t} {r = a} e) fine = (input-fits t.kind a c e, fine.1)
   told (result_row x) fine = told x fine
   told (value_row e x) fine = told x fine
-  told (new_plain {t = t} e) fine = ((name-of source t e fine.0, refl), fine.1)
-  told (new_temporary {u = u} e f) fine = ((name-of source u f fine.1.0, refl), fine.1.1)
-  told (new_region {u = u} e f h x) fine = let r = told x fine.1.1.1 in ((name-of source u f fine.1.0, r.0), r.1)
+  told (new_plain {t = t} e x) fine = let r = told x fine.1 in ((name-of source t e fine.0, r.0), r.1)
+  told (new_temporary {u = u} e f x) fine = let r = told x fine.1.1 in ((name-of source u f fine.1.0, r.0), r.1)
+  told (new_region {c = c} {u = u} {o = o} e f x h y) fine =
+      let r = told x fine.1.1 in
+      let q = told y r.1.1 in
+      ((name-of source u f fine.1.0, subst (λ z. AtFits c o z) q.0 r.0), q.1)
   told (call_start {e = g} {v = v} {a = a} e x f h y) fine =
       let r = told x fine.1 in
       let q = told y r.1.1.1 in
@@ -666,11 +762,15 @@ module _ (S source : List ℕ) where
   told (no_minus e x) fine = let r = told x fine in (looser 6 7 (omega arith) r.0, r.1)
   told (literal {c = c} {t = t} {a = a} e) fine = (literal-fits t.kind (text source t) a c e fine.0, fine.1)
   told (parens {c = c} {d = d} {e = g} {a = a} e h x f) fine = let r = told x fine.1 in (parens-fits a c d g h r.0, r.1.1)
+  told (size_row {c = c} {q = q} e x) fine =
+      let r = told x fine.1 in (subst (λ z. Fits c (depth_at 7 (size q)) (size q) z) r.0.1 (size-fits q c r.0.0), r.1)
   told (path_value {e = g} {a = a} x y) fine =
       let r = told x fine in
       let q = told y r.1 in
       (subst (λ z. Fits z (depth_at 7 a) a g) (sym r.0.1) (q.0 r.0.0), q.1)
   told (is_row {c = c} {q = q} e f) fine = (λ h. is_nil-fits q c h, fine.1.1)
+  told (element_of {c = c} {d = d} {e = g} {q = q} {a = a} e h x f) fine =
+      let r = told x fine.1 in (λ i. element-fits q a c d g i h r.0, r.1.1)
   told (no_is {c = c} {q = q} e) fine = (λ h. path-fits q c h, fine)
 
   -- what the reading of a whole program tells

@@ -10,7 +10,7 @@ use Rattle.rg_base.specs.declared.fault.Code.TheVariants as code
 use Rattle.rg_tree.specs.declared.rows.BinOp.{BinOp}
 use Rattle.rg_tree.specs.declared.rows.BinOp.TheVariants.{Eq, Ne, Lt, Le, Gt, Ge, Add, Sub, Mul, Div, Rem}
 use Rattle.rg_tree.specs.declared.counts.Counts.{Counts}
-use Rattle.rg_tree.specs.Tree.{Name, Path, Expr, number, boolean, nil, path, is_nil, binary}
+use Rattle.rg_tree.specs.Tree.{Name, Path, Expr, number, boolean, nil, path, is_nil, binary, size, element}
 use Rattle.rg_tree.specs.Canonical.{level, op_level, left_level, right_level}
 use Rattle.rg_tree.specs.Counts.{opened, closed, one_sign}
 use Rattle.rg_tree.proofs.Callers.{within-ok}
@@ -101,15 +101,20 @@ binary-fits op a b c d e f x h y =
       few = λ i. signs-both (signs a) (signs b) c.signs (omega arith) (λ i. let r = yf i in omega arith);
     }
 
--- in parentheses
-parens-room : (v : Bool) (n b : ℕ) → b < 64 → (0 < n → b + 1 + n ≤ 64) → 0 < one_if v n → b + one_if v n ≤ 64
-parens-room true zero b l h i = omega arith
-parens-room true (suc n) b l h i = let r = h (omega arith) in omega arith
-parens-room false zero b l h i = omega arith
-parens-room false (suc n) b l h i = let r = h (omega arith) in omega arith
+-- one bracket deeper
+brackets-room : (v : Bool) (n b : ℕ) → b < 64 → (0 < n → b + 1 + n ≤ 64) → 0 < one_if v n → b + one_if v n ≤ 64
+brackets-room true zero b l h i = omega arith
+brackets-room true (suc n) b l h i = let r = h (omega arith) in omega arith
+brackets-room false zero b l h i = omega arith
+brackets-room false (suc n) b l h i = let r = h (omega arith) in omega arith
 
-pub parens-fits : (a : Expr) (c d e : Counts) → opened c ≡ Ok d → Fits d (depth a) a e → Fits c (depth_at 7 a) a (closed e)
-parens-fits a c d e h x =
+record Within (c : Counts) (a : Expr) (d : Counts) : Type 0 where
+  room : (v : Bool) → 0 < one_if v (depth a) → c.brackets + one_if v (depth a) ≤ 64
+  spent : d ≡ with_signs c (c.signs + signs a)
+  few : 0 < signs a → c.signs + signs a ≤ 512
+
+brackets-within : (a : Expr) (c d e : Counts) → opened c ≡ Ok d → Fits d (depth a) a e → Within c a (closed e)
+brackets-within a c d e h x =
     let o = opened-counts c d h in
     let db : d.brackets ≡ c.brackets + 1 = ap (λ z. z.brackets) o.1 in
     let ds : d.signs ≡ c.signs = ap (λ z. z.signs) o.1 in
@@ -118,11 +123,23 @@ parens-fits a c d e h x =
     let n = d.signs + signs a in
     let q : n ≡ c.signs + signs a = omega arith in
     record {
-      plain = x.plain;
-      room = parens-room (nat_lt (level a) 7) (depth a) c.brackets o.0 (λ i. let q = r i in omega arith);
+      room = λ v. brackets-room v (depth a) c.brackets o.0 (λ i. let q = r i in omega arith);
       spent = ap closed x.spent ∙ ap (λ z. closed (with_signs z n)) o.1 ∙ closed-deeper (with_signs c n) ∙ ap (with_signs c) q;
       few = λ i. let q = f i in omega arith;
     }
+
+-- in parentheses
+pub parens-fits : (a : Expr) (c d e : Counts) → opened c ≡ Ok d → Fits d (depth a) a e → Fits c (depth_at 7 a) a (closed e)
+parens-fits a c d e h x =
+    let r = brackets-within a c d e h x in
+    record { plain = x.plain; room = r.room (nat_lt (level a) 7); spent = r.spent; few = r.few }
+
+-- an element, with its index in brackets
+pub element-fits : (q : Path) (a : Expr) (c d e : Counts) → PathPlain q → opened c ≡ Ok d → Fits d (depth a) a e
+    → Fits c (depth_at 7 (element q a)) (element q a) (closed e)
+element-fits q a c d e f h x =
+    let r = brackets-within a c d e h x in
+    record { plain = (f, x.plain); room = r.room true; spent = r.spent; few = r.few }
 
 -- without parentheses and signs
 plain-spent : (c : Counts) → c ≡ with_signs c (c.signs + 0)
@@ -161,6 +178,9 @@ path-fits q c f = record { plain = f; room = λ i. absurd (omega arith); spent =
 
 pub is_nil-fits : (q : Path) (c : Counts) → PathPlain q → Fits c (depth_at 7 (is_nil q)) (is_nil q) c
 is_nil-fits q c f = record { plain = f; room = λ i. absurd (omega arith); spent = plain-spent c; few = λ i. absurd (omega arith) }
+
+pub size-fits : (q : Path) (c : Counts) → PathPlain q → Fits c (depth_at 7 (size q)) (size q) c
+size-fits q c f = record { plain = f; room = λ i. absurd (omega arith); spent = plain-spent c; few = λ i. absurd (omega arith) }
 
 -- The levels of operators, by their signs.
 

@@ -11,7 +11,7 @@ use Rattle.rg_base.specs.declared.token.Token.{Token}
 use Rattle.rg_tree.specs.declared.rows.BinOp.{BinOp}
 use Rattle.rg_tree.specs.declared.rows.BinOp.TheVariants.{Or, And, Eq, Ne, Lt, Le, Gt, Ge, Add, Sub, Mul, Div, Rem}
 use Rattle.rg_tree.specs.declared.counts.Counts.{Counts}
-use Rattle.rg_tree.specs.Tree.{Variable, Path, Expr, number, boolean, nil, path, is_nil, neg, not, binary}
+use Rattle.rg_tree.specs.Tree.{Variable, Path, Expr, number, boolean, nil, path, is_nil, neg, not, binary, size, element}
 use Rattle.rg_tree.specs.Canonical.{level}
 use Rattle.rg_tree.specs.Counts.{opened, one_sign}
 use Rattle.rg_tree.specs.Phrases.{the}
@@ -22,7 +22,7 @@ use Rattle.rg_tree.specs.Forms as form
 use Rattle.rg_tree.specs.Forms.{Form, Given}
 use Rattle.rg_tree.specs.Grammar.{Reads, expr_row, or_row, no_or, and_row, and_further, no_and, not_row, no_not, cmp_row, compared, not_compared}
 use Rattle.rg_tree.specs.Grammar.{sum_row, sum_further, no_sum, mul_row, mul_further, no_mul, minus, no_minus, literal, parens, path_value, is_row}
-use Rattle.rg_tree.specs.Grammar.{no_is}
+use Rattle.rg_tree.specs.Grammar.{no_is, size_row, element_of}
 use Rattle.rg_print.proofs.Canon.Lexemes.{Lexeme, word, mark, sign_text, space, base_lexeme, dotted, enclosed, expr_lexemes}
 use Rattle.rg_print.proofs.Canon.LexemeCuts.{tokens_at}
 use Rattle.rg_print.proofs.Canon.Readings.{first_kind, next-tokens_at, Ends7, Ends5, Ends4, Ends3, Ends1, Ends0, ends-all, with_signs, signs, one_if}
@@ -500,6 +500,32 @@ module _ (S : List ℕ) where
         reads = path_value r.reads (is_row refl refl);
       })
 
+  size-primary : (q : Path) → AsPrimary (expr_lexemes (size q)) (size q) 0
+  size-primary q c i j from line rest v f sp =
+      let r = path-read S (with_signs c i) q.base q.fields (from + 4 + 1) line rest f.fields sp in
+      unchanged c v.sum (record { from = r.from; line = r.line; spelt = r.spelt; reads = size_row refl r.reads })
+
+  element-primary : (q : Path) (e : Expr) (n : ℕ) → AsExpr (expr_lexemes e) e n → AsPrimary (expr_lexemes (element q e)) (element q e) (n + 1)
+  element-primary q e n h c i j from line rest v f sp =
+      let inner : Ends0 (Some (k.Mark s.CloseBracket)) = ends-all refl refl refl refl refl refl refl in
+      let room : c.brackets + (n + 1) ≤ 64 = v.room (omega arith) in
+      let p = path-read S (with_signs c i) q.base q.fields from line
+      (mark s.OpenBracket ∷ expr_lexemes e (mark s.CloseBracket ∷ rest)) refl sp in
+      let r = expr-whole (expr_lexemes e) e n h (deeper c) i j (p.from + 1) p.line (mark s.CloseBracket ∷ rest) (record {
+        room = λ l. omega arith;
+        sum = v.sum;
+        few = v.few;
+      }) inner p.spelt in
+      let o : opened (with_signs c i) ≡ Ok (with_signs (deeper c) i) = opened-allowed (with_signs c i) (omega arith) in
+      record {
+        from = r.from + 1;
+        line = r.line;
+        spelt = r.spelt;
+        reads = subst (λ d. Reads S form.Primary (with_signs c i) (tokens_at from line (expr_lexemes (element q e) rest)) (element q e) d
+            (tokens_at (r.from + 1) r.line rest))
+            (closed-deeper (with_signs c j)) (path_value p.reads (element_of refl o r.reads refl));
+      }
+
   -- The levels of each expression.
 
   -- what a sign of two operands ends
@@ -607,3 +633,9 @@ module _ (S : List ℕ) where
   stands (binary Mul a b) = product-stands a b (stands a) (stands b) Mul s.Star refl (ends7 refl refl)
   stands (binary Div a b) = product-stands a b (stands a) (stands b) Div s.Slash refl (ends7 refl refl)
   stands (binary Rem a b) = product-stands a b (stands a) (stands b) Rem s.Percent refl (ends7 refl refl)
+  stands (size q) = at7 (expr_lexemes (size q)) (size q) 0 (λ rest. record { right = refl; args = refl }) (λ rest. refl) (λ rest. refl)
+      (size-primary q)
+  stands (element q e) =
+      let g = stands e in
+      at7 (expr_lexemes (element q e)) (element q e) (depth (element q e)) (λ rest. (base-begins q.base _).begins)
+      (λ rest. (base-begins q.base _).starts) (λ rest. (base-begins q.base _).plus) (element-primary q e (depth e) g.bare)

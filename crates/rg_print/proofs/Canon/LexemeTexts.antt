@@ -1,6 +1,6 @@
 -- The bytes of the lexemes are the canonical text: each lemma says it of the lexemes of one kind of phrase, in front of others.
 use Rattle.std.proofs.Common.{◌≡◌, ℕ, suc, ◌*◌, Bool, true, false, nat_lt, List, [], ◌∷◌, ◌++◌, replicate, Option, None, Some, codes, refl, sym, ◌∙◌}
-use Rattle.std.proofs.Common.{append_assoc, append-nil}
+use Rattle.std.proofs.Common.{ap, append_assoc, append-nil}
 use Rattle.std.specs.Prelude.{flat_map}
 use Rattle.rg_base.specs.declared.words.Cap.{Cap}
 use Rattle.rg_base.specs.declared.words.Cap.TheVariants.{Mut, Tmp, Paused, Imm, Iso}
@@ -11,18 +11,19 @@ use Rattle.rg_base.specs.declared.words.Keyword.TheVariants as w
 use Rattle.rg_tree.specs.declared.rows.BinOp.{BinOp}
 use Rattle.rg_tree.specs.declared.rows.BinOp.TheVariants.{Or, And, Eq, Ne, Lt, Le, Gt, Ge, Add, Sub, Mul, Div, Rem}
 use Rattle.rg_base.specs.Text.{bool_text}
-use Rattle.rg_tree.specs.Tree.{Name, Variable, Path, Ty, int, bool, ref, Expr, number, boolean, nil, path, is_nil, neg, not, binary, Call, Right}
-use Rattle.rg_tree.specs.Tree.{value, new, new_tmp, new_iso, freeze, merge, read, more, result_of, Stmt, stmt, StmtKind, declare, assign, call, swap}
-use Rattle.rg_tree.specs.Tree.{branch, while, enter, print, collect, return, Else, no_else, otherwise, Block, empty, then, Param, Member, field}
-use Rattle.rg_tree.specs.Tree.{method, Class, Tree}
+use Rattle.rg_tree.specs.Tree.{Name, Variable, Path, Ty, int, bool, ref, Expr, number, boolean, nil, path, is_nil, neg, not, binary, size, element}
+use Rattle.rg_tree.specs.Tree.{Call, Right, value, new, new_tmp, new_iso, freeze, merge, read, more, result_of, Stmt, stmt, StmtKind, declare, assign}
+use Rattle.rg_tree.specs.Tree.{assign_element, call, swap, branch, while, enter, print, collect, return, Else, no_else, otherwise, Block, empty, then}
+use Rattle.rg_tree.specs.Tree.{Param, Member, field, method, Class, Tree}
 use Rattle.rg_tree.specs.Canonical.{op_text, cap_text, manager_text, level, left_level, right_level, base_text, path_text, in_parens, expr_text}
-use Rattle.rg_tree.specs.Canonical.{ty_text, joined, arg_texts, call_text, right_text, stmt_text, kind_text, else_text, block_text, param_texts}
-use Rattle.rg_tree.specs.Canonical.{result_text, member_text, class_word, class_text, canon}
+use Rattle.rg_tree.specs.Canonical.{ty_text, joined, arg_texts, call_text, size_text, right_text, giving_text, stmt_text, kind_text, else_text}
+use Rattle.rg_tree.specs.Canonical.{block_text, param_texts, result_text, member_text, class_word, rest_text, class_text, line_of, canon}
 use Rattle.rg_print.proofs.Canon.Lexemes.{Lexeme, word, mark, named, lexeme_text, text_of, word_text, space, newline, indent, cap_word, manager_word}
 use Rattle.rg_print.proofs.Canon.Lexemes.{op_lexeme, base_lexeme, dotted, path_lexemes, ty_lexemes, boolean_word, enclosed, expr_lexemes}
-use Rattle.rg_print.proofs.Canon.Lexemes.{more_arg_lexemes, arg_lexemes, call_lexemes, right_lexemes, braces, stmt_lexemes, kind_lexemes}
-use Rattle.rg_print.proofs.Canon.Lexemes.{else_lexemes, block_lexemes, more_param_lexemes, param_lexemes, result_lexemes, member_lexemes}
-use Rattle.rg_print.proofs.Canon.Lexemes.{members_lexemes, class_lexemes, one_class_lexemes, classes_lexemes, program_lexemes}
+use Rattle.rg_print.proofs.Canon.Lexemes.{index_lexemes, size_lexemes, more_arg_lexemes, arg_lexemes, call_lexemes, right_lexemes, giving_lexemes}
+use Rattle.rg_print.proofs.Canon.Lexemes.{braces, stmt_lexemes, kind_lexemes, else_lexemes, block_lexemes, more_param_lexemes, param_lexemes}
+use Rattle.rg_print.proofs.Canon.Lexemes.{result_lexemes, member_lexemes, members_lexemes, class_lexemes, rest_lexemes, one_class_lexemes}
+use Rattle.rg_print.proofs.Canon.Lexemes.{classes_lexemes, program_lexemes}
 
 -- words and signs
 cap-text : (c : Cap) → word_text (cap_word c) ≡ cap_text c
@@ -93,6 +94,10 @@ expr-text (binary op a b) rest =
       op-text op (enclosed (nat_lt (level b) (right_level op)) (expr_lexemes b) rest),
       enclosed-text (nat_lt (level b) (right_level op)) (expr_lexemes b) (expr_text b) (expr-text b) rest,
     ) (simp append_assoc))
+expr-text (size q) rest = rw (path-text q rest) refl
+expr-text (element q e) rest =
+    path-text q (mark s.OpenBracket ∷ expr_lexemes e (mark s.CloseBracket ∷ rest))
+    ∙ (rw (expr-text e (mark s.CloseBracket ∷ rest)) (simp append_assoc))
 
 -- texts with a comma between, as the first one and the rest
 joined-cons : (x : List ℕ) (xs : List (List ℕ)) → joined (x ∷ xs) ≡ x ++ flat_map (λ y. codes ", " ++ y) xs
@@ -117,9 +122,16 @@ call-text a rest =
       args-text a.args (mark s.CloseParen ∷ rest),
     ) (simp append_assoc)
 
+size-text : (o : Option Expr) (rest : List Lexeme) → text_of (size_lexemes o rest) ≡ size_text o ++ text_of rest
+size-text None rest = refl
+size-text (Some e) rest = rw (expr-text e (mark s.CloseBracket ∷ rest)) (simp append_assoc)
+
 right-text : (r : Right) (rest : List Lexeme) → text_of (right_lexemes r rest) ≡ right_text r ++ text_of rest
 right-text (value e) rest = expr-text e rest
-right-text (new_iso n m) rest = rw (manager-text m) (simp append_assoc)
+right-text (new n o) rest = rw (size-text o rest) (simp append_assoc)
+right-text (new_tmp n o) rest = rw (size-text o rest) (simp append_assoc)
+right-text (new_iso n o m) rest =
+    rw (size-text o (space ∷ word w.In ∷ space ∷ word (manager_word m) ∷ rest), manager-text m) (simp append_assoc)
 right-text read rest = refl
 right-text more rest = refl
 right-text (result_of a) rest = call-text a rest
@@ -129,6 +141,17 @@ right-text _ rest = simp append_assoc
 braces-text : (d : ℕ) (body : List Lexeme → List Lexeme) (text : List ℕ) → ((rest : List Lexeme) → text_of (body rest) ≡ text ++ text_of rest)
     → (rest : List Lexeme) → text_of (braces d body rest) ≡ codes "{" ++ 10 ∷ [] ++ text ++ replicate (2 * d) 32 ++ codes "}" ++ text_of rest
 braces-text d body text h rest = rw (h (indent d ∷ mark s.CloseBrace ∷ rest)) (simp append_assoc)
+
+-- the same, where the text of what follows is known
+braces-before : (d : ℕ) (body : List Lexeme → List Lexeme) (text : List ℕ) → ((rest : List Lexeme) → text_of (body rest) ≡ text ++ text_of rest)
+    → (rest : List Lexeme) (t : List ℕ) → text_of rest ≡ t
+    → text_of (braces d body rest) ≡ codes "{" ++ 10 ∷ [] ++ text ++ replicate (2 * d) 32 ++ codes "}" ++ t
+braces-before d body text h rest t e =
+    braces-text d body text h rest ∙ ap (λ x. codes "{" ++ 10 ∷ [] ++ text ++ replicate {A = ℕ} (2 * d) 32 ++ codes "}" ++ x) e
+
+giving-text : (o : Option Name) (rest : List Lexeme) → text_of (giving_lexemes o rest) ≡ giving_text o ++ text_of rest
+giving-text None rest = refl
+giving-text (Some n) rest = simp append_assoc
 
 -- a line of five parts behind its indent
 line-of-five : (r a b c d e f g : List ℕ) → r ++ (a ++ (b ++ (c ++ (d ++ (e ++ (f ++ g)))))) ≡ (r ++ (a ++ b ++ c ++ d ++ e) ++ f) ++ g
@@ -159,6 +182,13 @@ mutual
         path-text q (space ∷ mark s.Assign ∷ space ∷ right_lexemes r (mark s.Semicolon ∷ newline ∷ rest)),
         right-text r (mark s.Semicolon ∷ newline ∷ rest),
       ) (simp append_assoc)
+  kind-text d (assign_element q e r) rest =
+      let after = space ∷ mark s.Assign ∷ space ∷ right_lexemes r (mark s.Semicolon ∷ newline ∷ rest) in
+      rw (
+        path-text q (index_lexemes e after),
+        expr-text e (mark s.CloseBracket ∷ after),
+        right-text r (mark s.Semicolon ∷ newline ∷ rest),
+      ) (simp append_assoc)
   kind-text d (call a) rest = rw (call-text a (mark s.Semicolon ∷ newline ∷ rest)) (simp append_assoc)
   kind-text d (swap n q) rest =
       rw (path-text q (mark s.Semicolon ∷ newline ∷ rest))
@@ -175,10 +205,12 @@ mutual
         expr-text e (space ∷ braces d (block_lexemes (suc d) b) (newline ∷ rest)),
         braces-text d (block_lexemes (suc d) b) (block_text (suc d) b) (block-text (suc d) b) (newline ∷ rest),
       ) (simp append_assoc)
-  kind-text d (enter q n b) rest =
+  kind-text d (enter q n b o) rest =
+      let after = giving_lexemes o (newline ∷ rest) in
       rw (
-        path-text q (space ∷ word w.As ∷ space ∷ named n ∷ space ∷ braces d (block_lexemes (suc d) b) (newline ∷ rest)),
-        braces-text d (block_lexemes (suc d) b) (block_text (suc d) b) (block-text (suc d) b) (newline ∷ rest),
+        path-text q (space ∷ word w.As ∷ space ∷ named n ∷ space ∷ braces d (block_lexemes (suc d) b) after),
+        braces-before d (block_lexemes (suc d) b) (block_text (suc d) b) (block-text (suc d) b) after
+            (giving_text o ++ text_of (newline ∷ rest)) (giving-text o (newline ∷ rest)),
       ) (simp append_assoc)
   kind-text d (print e) rest = rw (expr-text e (mark s.Semicolon ∷ newline ∷ rest)) (simp append_assoc)
   kind-text d collect rest = simp append_assoc
@@ -230,12 +262,23 @@ class-word-text : (v : Bool) (rest : List Lexeme) → text_of (class_lexemes v (
 class-word-text false rest = refl
 class-word-text true rest = refl
 
+rest-text : (o : Option Ty) (ms : List Member) (rest : List Lexeme)
+    → text_of (space ∷ rest_lexemes o ms rest) ≡ rest_text o ms ++ text_of rest
+rest-text None ms rest =
+    rw (members-text ms (mark s.CloseBrace ∷ newline ∷ rest))
+    (ap (λ x. codes " {" ++ 10 ∷ x) (sym (append_assoc (flat_map member_text ms) (line_of 0 (codes "}")) (text_of rest))))
+rest-text (Some t) ms rest = rw (ty-text t (mark s.CloseBracket ∷ mark s.Semicolon ∷ newline ∷ rest)) (simp append_assoc)
+
+-- a class, where what stands behind its name is known
+class-of-parts : (a n x y t : List ℕ) → x ≡ y ++ t → a ++ (n ++ x) ≡ (a ++ n ++ y) ++ t
+class-of-parts a n x y t h = rw h (simp append_assoc)
+
 class-text : (k : Class) (rest : List Lexeme) → text_of (one_class_lexemes k rest) ≡ class_text k ++ text_of rest
 class-text k rest =
-    rw (
-      class-word-text k.is_tmp (named k.name ∷ space ∷ mark s.OpenBrace ∷ newline ∷ members_lexemes k.members (mark s.CloseBrace ∷ newline ∷ rest)),
-      members-text k.members (mark s.CloseBrace ∷ newline ∷ rest),
-    ) (simp append_assoc)
+    let behind = space ∷ rest_lexemes k.element k.members rest in
+    rw (class-word-text k.is_tmp (named k.name ∷ behind))
+    (class-of-parts (class_word k.is_tmp) k.name (text_of behind) (rest_text k.element k.members) (text_of rest)
+    (rest-text k.element k.members rest))
 
 classes-text : (ks : List Class) (rest : List Lexeme) → text_of (classes_lexemes ks rest) ≡ flat_map class_text ks ++ text_of rest
 classes-text [] rest = refl

@@ -11,10 +11,10 @@ use Rattle.rg_base.specs.declared.words.Sign.{Sign}
 use Rattle.rg_base.specs.declared.words.Sign.TheVariants as s
 use Rattle.rg_tree.specs.declared.rows.BinOp.{BinOp}
 use Rattle.rg_tree.specs.declared.rows.BinOp.TheVariants.{Or, And, Eq, Ne, Lt, Le, Gt, Ge, Add, Sub, Mul, Div, Rem}
-use Rattle.rg_tree.specs.Tree.{Name, Variable, Path, Ty, int, bool, ref, Expr, number, boolean, nil, path, is_nil, neg, not, binary, Call, Right}
-use Rattle.rg_tree.specs.Tree.{value, new, new_tmp, new_iso, freeze, merge, read, more, result_of, Stmt, stmt, StmtKind, declare, assign, call, swap}
-use Rattle.rg_tree.specs.Tree.{branch, while, enter, print, collect, return, Else, no_else, otherwise, Block, empty, then, Param, Member, field}
-use Rattle.rg_tree.specs.Tree.{method, Class, Tree}
+use Rattle.rg_tree.specs.Tree.{Name, Variable, Path, Ty, int, bool, ref, Expr, number, boolean, nil, path, is_nil, neg, not, binary, size, element}
+use Rattle.rg_tree.specs.Tree.{Call, Right, value, new, new_tmp, new_iso, freeze, merge, read, more, result_of, Stmt, stmt, StmtKind, declare, assign}
+use Rattle.rg_tree.specs.Tree.{assign_element, call, swap, branch, while, enter, print, collect, return, Else, no_else, otherwise, Block, empty, then}
+use Rattle.rg_tree.specs.Tree.{Param, Member, field, method, Class, Tree}
 use Rattle.rg_tree.specs.Canonical.{level, left_level, right_level}
 
 pub data Lexeme : Type 0 where
@@ -76,6 +76,8 @@ sign_text s.OpenBrace = codes "{"
 sign_text s.CloseBrace = codes "}"
 sign_text s.OpenParen = codes "("
 sign_text s.CloseParen = codes ")"
+sign_text s.OpenBracket = codes "["
+sign_text s.CloseBracket = codes "]"
 sign_text s.Colon = codes ":"
 sign_text s.Semicolon = codes ";"
 sign_text s.Comma = codes ","
@@ -183,6 +185,17 @@ expr_lexemes (not a) rest = word w.Not ∷ space ∷ enclosed (nat_lt (level a) 
 expr_lexemes (binary op a b) rest =
     enclosed (nat_lt (level a) (left_level op)) (expr_lexemes a)
     (space ∷ op_lexeme op ∷ space ∷ enclosed (nat_lt (level b) (right_level op)) (expr_lexemes b) rest)
+expr_lexemes (size q) rest = word w.Size ∷ space ∷ path_lexemes q rest
+expr_lexemes (element q e) rest = path_lexemes q (mark s.OpenBracket ∷ expr_lexemes e (mark s.CloseBracket ∷ rest))
+
+-- an expression in brackets
+abbrev pub index_lexemes : Expr → List Lexeme → List Lexeme
+index_lexemes e rest = mark s.OpenBracket ∷ expr_lexemes e (mark s.CloseBracket ∷ rest)
+
+-- a size behind a class, where there is one
+abbrev pub size_lexemes : Option Expr → List Lexeme → List Lexeme
+size_lexemes None rest = rest
+size_lexemes (Some e) rest = space ∷ index_lexemes e rest
 
 -- arguments behind others
 abbrev pub more_arg_lexemes : List Expr → List Lexeme → List Lexeme
@@ -199,15 +212,20 @@ call_lexemes a rest =
 
 abbrev pub right_lexemes : Right → List Lexeme → List Lexeme
 right_lexemes (value e) rest = expr_lexemes e rest
-right_lexemes (new n) rest = word w.New ∷ space ∷ named n ∷ rest
-right_lexemes (new_tmp n) rest = word w.New ∷ space ∷ word w.Tmp ∷ space ∷ named n ∷ rest
-right_lexemes (new_iso n m) rest =
-    word w.New ∷ space ∷ word w.Iso ∷ space ∷ named n ∷ space ∷ word w.In ∷ space ∷ word (manager_word m) ∷ rest
+right_lexemes (new n o) rest = word w.New ∷ space ∷ named n ∷ size_lexemes o rest
+right_lexemes (new_tmp n o) rest = word w.New ∷ space ∷ word w.Tmp ∷ space ∷ named n ∷ size_lexemes o rest
+right_lexemes (new_iso n o m) rest =
+    word w.New ∷ space ∷ word w.Iso ∷ space ∷ named n ∷ size_lexemes o (space ∷ word w.In ∷ space ∷ word (manager_word m) ∷ rest)
 right_lexemes (freeze n) rest = word w.Freeze ∷ space ∷ named n ∷ rest
 right_lexemes (merge n) rest = word w.Merge ∷ space ∷ named n ∷ rest
 right_lexemes read rest = word w.Read ∷ rest
 right_lexemes more rest = word w.More ∷ rest
 right_lexemes (result_of a) rest = call_lexemes a rest
+
+-- what is given behind the block of an enter, if anything
+abbrev pub giving_lexemes : Option Name → List Lexeme → List Lexeme
+giving_lexemes None rest = rest
+giving_lexemes (Some n) rest = space ∷ word w.Giving ∷ space ∷ named n ∷ mark s.Semicolon ∷ rest
 
 -- a block at a depth, without the end of its last line
 abbrev pub braces : ℕ → (List Lexeme → List Lexeme) → List Lexeme → List Lexeme
@@ -223,12 +241,15 @@ abbrev mutual
   kind_lexemes d (declare n t r) rest =
       word w.Let ∷ space ∷ named n ∷ mark s.Colon ∷ space ∷ ty_lexemes t (space ∷ mark s.Assign ∷ space ∷ right_lexemes r (mark s.Semicolon ∷ rest))
   kind_lexemes d (assign q r) rest = path_lexemes q (space ∷ mark s.Assign ∷ space ∷ right_lexemes r (mark s.Semicolon ∷ rest))
+  kind_lexemes d (assign_element q e r) rest =
+      path_lexemes q (index_lexemes e (space ∷ mark s.Assign ∷ space ∷ right_lexemes r (mark s.Semicolon ∷ rest)))
   kind_lexemes d (call a) rest = call_lexemes a (mark s.Semicolon ∷ rest)
   kind_lexemes d (swap n q) rest = word w.Swap ∷ space ∷ named n ∷ mark s.Comma ∷ space ∷ path_lexemes q (mark s.Semicolon ∷ rest)
   kind_lexemes d (branch e b o) rest = word w.If ∷ space ∷ expr_lexemes e (space ∷ braces d (block_lexemes (suc d) b) (else_lexemes d o rest))
   kind_lexemes d (while e b) rest = word w.While ∷ space ∷ expr_lexemes e (space ∷ braces d (block_lexemes (suc d) b) rest)
-  kind_lexemes d (enter q n b) rest =
-      word w.Enter ∷ space ∷ path_lexemes q (space ∷ word w.As ∷ space ∷ named n ∷ space ∷ braces d (block_lexemes (suc d) b) rest)
+  kind_lexemes d (enter q n b o) rest =
+      word w.Enter ∷ space ∷ path_lexemes q
+      (space ∷ word w.As ∷ space ∷ named n ∷ space ∷ braces d (block_lexemes (suc d) b) (giving_lexemes o rest))
   kind_lexemes d (print e) rest = word w.Print ∷ space ∷ expr_lexemes e (mark s.Semicolon ∷ rest)
   kind_lexemes d collect rest = word w.Collect ∷ mark s.Semicolon ∷ rest
   kind_lexemes d (return e) rest = word w.Return ∷ space ∷ expr_lexemes e (mark s.Semicolon ∷ rest)
@@ -269,10 +290,13 @@ abbrev pub class_lexemes : Bool → List Lexeme → List Lexeme
 class_lexemes false rest = word w.Class ∷ rest
 class_lexemes true rest = word w.Tmp ∷ space ∷ word w.Class ∷ rest
 
+-- what stands behind the name of a class and a blank
+abbrev pub rest_lexemes : (element : Option Ty) → List Member → List Lexeme → List Lexeme
+rest_lexemes None ms rest = mark s.OpenBrace ∷ newline ∷ members_lexemes ms (mark s.CloseBrace ∷ newline ∷ rest)
+rest_lexemes (Some t) ms rest = mark s.OpenBracket ∷ ty_lexemes t (mark s.CloseBracket ∷ mark s.Semicolon ∷ newline ∷ rest)
+
 abbrev pub one_class_lexemes : Class → List Lexeme → List Lexeme
-one_class_lexemes c rest =
-    class_lexemes c.is_tmp (space ∷ named c.name ∷ space ∷ mark s.OpenBrace ∷ newline ∷ members_lexemes c.members
-    (mark s.CloseBrace ∷ newline ∷ rest))
+one_class_lexemes c rest = class_lexemes c.is_tmp (space ∷ named c.name ∷ space ∷ rest_lexemes c.element c.members rest)
 
 abbrev pub classes_lexemes : List Class → List Lexeme → List Lexeme
 classes_lexemes [] rest = rest

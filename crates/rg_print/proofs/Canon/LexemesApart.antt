@@ -1,14 +1,15 @@
 -- The lexemes of paths, types, expressions, calls and right sides stand apart, where names and numbers are within their limits.
-use Rattle.std.proofs.Common.{◌≡◌, nat_lt, Bool, true, false, List, [], ◌∷◌, None, Some, refl}
+use Rattle.std.proofs.Common.{◌≡◌, nat_lt, Bool, true, false, List, [], ◌∷◌, Option, None, Some, refl}
 use Rattle.rg_base.specs.declared.words.Keyword.TheVariants as w
 use Rattle.rg_base.specs.declared.words.Sign.TheVariants as s
 use Rattle.rg_tree.specs.declared.rows.BinOp.{BinOp}
 use Rattle.rg_tree.specs.declared.rows.BinOp.TheVariants.{Or, And, Eq, Ne, Lt, Le, Gt, Ge, Add, Sub, Mul, Div, Rem}
-use Rattle.rg_tree.specs.Tree.{Name, Variable, Path, Ty, int, bool, ref, Expr, number, boolean, nil, path, is_nil, neg, not, binary, Call, Right}
-use Rattle.rg_tree.specs.Tree.{value, new, new_tmp, new_iso, freeze, merge, read, more, result_of}
+use Rattle.rg_tree.specs.Tree.{Name, Variable, Path, Ty, int, bool, ref, Expr, number, boolean, nil, path, is_nil, neg, not, binary, size, element}
+use Rattle.rg_tree.specs.Tree.{Call, Right, value, new, new_tmp, new_iso, freeze, merge, read, more, result_of}
 use Rattle.rg_tree.specs.Canonical.{level, left_level, right_level}
-use Rattle.rg_print.proofs.Canon.Lexemes.{Lexeme, word, mark, named, text_of, space, op_lexeme, base_lexeme, dotted, path_lexemes, ty_lexemes}
-use Rattle.rg_print.proofs.Canon.Lexemes.{enclosed, expr_lexemes, more_arg_lexemes, arg_lexemes, call_lexemes, right_lexemes}
+use Rattle.rg_print.proofs.Canon.Lexemes.{Lexeme, word, mark, named, text_of, space, manager_word, op_lexeme, base_lexeme, dotted, path_lexemes}
+use Rattle.rg_print.proofs.Canon.Lexemes.{ty_lexemes, enclosed, expr_lexemes, index_lexemes, size_lexemes, more_arg_lexemes, arg_lexemes}
+use Rattle.rg_print.proofs.Canon.Lexemes.{call_lexemes, right_lexemes}
 use Rattle.rg_print.proofs.Canon.LexemeCuts.{IsName, IsNumber, goes_on, StandApart}
 
 -- Names and numbers within their limits.
@@ -39,6 +40,8 @@ ExprPlain (is_nil q) = PathPlain q
 ExprPlain (neg a) = ExprPlain a
 ExprPlain (not a) = ExprPlain a
 ExprPlain (binary op a b) = ExprPlain a × ExprPlain b
+ExprPlain (size q) = PathPlain q
+ExprPlain (element q e) = PathPlain q × ExprPlain e
 
 abbrev pub ArgsPlain : List Expr → Type 0
 ArgsPlain [] = Unit {0}
@@ -49,11 +52,15 @@ pub record CallPlain (a : Call) : Type 0 where
   pub method : IsName a.method
   pub args : ArgsPlain a.args
 
+abbrev pub SizePlain : Option Expr → Type 0
+SizePlain None = Unit {0}
+SizePlain (Some e) = ExprPlain e
+
 abbrev pub RightPlain : Right → Type 0
 RightPlain (value e) = ExprPlain e
-RightPlain (new n) = IsName n
-RightPlain (new_tmp n) = IsName n
-RightPlain (new_iso n m) = IsName n
+RightPlain (new n o) = IsName n × SizePlain o
+RightPlain (new_tmp n o) = IsName n × SizePlain o
+RightPlain (new_iso n o m) = IsName n × SizePlain o
 RightPlain (freeze n) = IsName n
 RightPlain (merge n) = IsName n
 RightPlain read = Unit {0}
@@ -115,6 +122,21 @@ expr-apart (binary op a b) n rest g r =
     let right = enclosed (nat_lt (level b) (right_level op)) (expr_lexemes b) rest in
     enclosed-apart (nat_lt (level a) (left_level op)) (expr_lexemes a) (expr-apart a n.0) (space ∷ op_lexeme op ∷ space ∷ right) refl
     (op-apart op right (enclosed-apart (nat_lt (level b) (right_level op)) (expr_lexemes b) (expr-apart b n.1) rest g r))
+expr-apart (size q) n rest g r = (refl, (refl, path-apart q rest n g r))
+expr-apart (element q e) n rest g r =
+    path-apart q (mark s.OpenBracket ∷ expr_lexemes e (mark s.CloseBracket ∷ rest)) n.0 refl
+    (tt, expr-apart e n.1 (mark s.CloseBracket ∷ rest) refl (tt, r))
+
+pub index-apart : (e : Expr) (rest : List Lexeme) → ExprPlain e → StandApart rest → StandApart (index_lexemes e rest)
+index-apart e rest n r = (tt, expr-apart e n (mark s.CloseBracket ∷ rest) refl (tt, r))
+
+size-goes : (o : Option Expr) (rest : List Lexeme) → goes_on (text_of rest) ≡ false → goes_on (text_of (size_lexemes o rest)) ≡ false
+size-goes None rest g = g
+size-goes (Some e) rest g = refl
+
+size-apart : (o : Option Expr) (rest : List Lexeme) → SizePlain o → StandApart rest → StandApart (size_lexemes o rest)
+size-apart None rest n r = r
+size-apart (Some e) rest n r = (refl, index-apart e rest n r)
 
 more_args-goes : (es : List Expr) (rest : List Lexeme) → goes_on (text_of rest) ≡ false → goes_on (text_of (more_arg_lexemes es rest)) ≡ false
 more_args-goes [] rest g = g
@@ -144,8 +166,11 @@ call-apart a rest n r = (
 pub right-apart : (a : Right) (rest : List Lexeme) → RightPlain a → goes_on (text_of rest) ≡ false → StandApart rest
     → StandApart (right_lexemes a rest)
 right-apart (value e) rest n g r = expr-apart e n rest g r
-right-apart (new_tmp x) rest n g r = (refl, (refl, (refl, (refl, (n, g, r)))))
-right-apart (new_iso x m) rest n g r = (refl, (refl, (refl, (refl, (n, refl, (refl, (refl, (refl, (g, r)))))))))
+right-apart (new x o) rest n g r = (refl, (refl, (n.0, size-goes o rest g, size-apart o rest n.1 r)))
+right-apart (new_tmp x o) rest n g r = (refl, (refl, (refl, (refl, (n.0, size-goes o rest g, size-apart o rest n.1 r)))))
+right-apart (new_iso x o m) rest n g r =
+    let all = space ∷ word w.In ∷ space ∷ word (manager_word m) ∷ rest in
+    (refl, (refl, (refl, (refl, (n.0, size-goes o all refl, size-apart o all n.1 (refl, (refl, (refl, (g, r)))))))))
 right-apart read rest n g r = (g, r)
 right-apart more rest n g r = (g, r)
 right-apart (result_of a) rest n g r = call-apart a rest n r

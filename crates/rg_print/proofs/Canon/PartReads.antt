@@ -1,27 +1,30 @@
 -- The lexemes of types, calls and right sides are read as these, with the counts that they fit.
-use Rattle.std.proofs.Common.{◌≡◌, ℕ, ◌+◌, ◌<◌, ◌≤◌, List, [], ◌∷◌, ◌++◌, length, Some, None, Ok, refl, sym, ap, subst, append_assoc}
+use Rattle.std.proofs.Common.{◌≡◌, ℕ, ◌+◌, ◌<◌, ◌≤◌, List, [], ◌∷◌, ◌++◌, length, Option, Some, None, Ok, refl, sym, ap, subst, append_assoc}
 use Rattle.rg_base.specs.declared.words.Cap.{Cap}
 use Rattle.rg_base.specs.declared.words.Cap.TheVariants.{Mut, Tmp, Paused, Imm, Iso}
 use Rattle.rg_base.specs.declared.words.Manager.{Manager}
 use Rattle.rg_base.specs.declared.words.Manager.TheVariants.{Arena, Count, Trace}
 use Rattle.rg_base.specs.declared.words.Keyword.TheVariants as w
 use Rattle.rg_base.specs.declared.words.Sign.TheVariants as s
+use Rattle.rg_base.specs.declared.token.Kind.{Kind}
 use Rattle.rg_base.specs.declared.token.Kind.TheVariants as k
 use Rattle.rg_base.specs.declared.token.Token.{Token}
 use Rattle.rg_tree.specs.declared.counts.Counts.{Counts}
 use Rattle.rg_tree.specs.Tree.{Name, Variable, Path, Ty, int, bool, ref, Expr, Call, Right, value, new, new_tmp, new_iso, freeze, merge, read, more}
 use Rattle.rg_tree.specs.Tree.{result_of}
 use Rattle.rg_tree.specs.Counts.{opened, closed}
+use Rattle.rg_tree.specs.Phrases as p
+use Rattle.rg_tree.specs.Table.{row}
 use Rattle.rg_tree.specs.Operators.{cap_of, manager_of}
 use Rattle.rg_tree.specs.Forms as form
 use Rattle.rg_tree.specs.Forms.{Form, Given}
 use Rattle.rg_tree.specs.Grammar.{Reads, text, longer, cap_row, plain_type, ref_type, manager_row, new_row, freeze_row, merge_row, input_row}
 use Rattle.rg_tree.specs.Grammar.{result_row, value_row, new_plain, new_temporary, new_region, call_start, call_base, call_further, call_args}
-use Rattle.rg_tree.specs.Grammar.{no_args, first_arg, next_arg, no_more_args}
+use Rattle.rg_tree.specs.Grammar.{no_args, first_arg, next_arg, no_more_args, at_row, no_at}
 use Rattle.rg_print.proofs.Canon.Lexemes.{Lexeme, word, mark, named, space, cap_word, manager_word, base_lexeme, dotted, ty_lexemes, expr_lexemes}
-use Rattle.rg_print.proofs.Canon.Lexemes.{more_arg_lexemes, arg_lexemes, call_lexemes, right_lexemes}
+use Rattle.rg_print.proofs.Canon.Lexemes.{index_lexemes, size_lexemes, more_arg_lexemes, arg_lexemes, call_lexemes, right_lexemes}
 use Rattle.rg_print.proofs.Canon.LexemeCuts.{IsName, tokens_at}
-use Rattle.rg_print.proofs.Canon.LexemesApart.{PathPlain, ExprPlain, ArgsPlain, CallPlain, RightPlain}
+use Rattle.rg_print.proofs.Canon.LexemesApart.{PathPlain, ExprPlain, ArgsPlain, CallPlain, SizePlain, RightPlain}
 use Rattle.rg_print.proofs.Canon.Readings.{ends-all, first_kind, next-tokens_at, Ends0, with_signs, signs, depth, Spelt, Read}
 use Rattle.rg_print.proofs.Canon.ExprReads.{expr-whole, stands}
 
@@ -32,7 +35,18 @@ pub record Fits (c : Counts) (n : ℕ) (e : Expr) (d : Counts) : Type 0 where
   pub spent : d ≡ with_signs c (c.signs + signs e)
   pub few : 0 < signs e → c.signs + signs e ≤ 512
 
--- the same of arguments, of a call and of a right side
+-- the same of an expression in brackets, of arguments, of a call and of a right side
+pub record IndexFits (c : Counts) (e : Expr) (d : Counts) : Type 0 where
+  pub within : Counts
+  pub opens : opened c ≡ Ok within
+  pub behind : Counts
+  pub inner : Fits within (depth e) e behind
+  pub closes : closed behind ≡ d
+
+abbrev pub AtFits : Counts → Option Expr → Counts → Type 0
+AtFits c None d = c ≡ d
+AtFits c (Some e) d = IndexFits c e d
+
 abbrev pub ArgsFit : Counts → List Expr → Counts → Type 0
 ArgsFit c [] d = c ≡ d
 ArgsFit c (e ∷ es) d = (m : Counts) × (Fits c (depth e) e m × ArgsFit m es d)
@@ -48,9 +62,9 @@ pub record CallFits (c : Counts) (a : Call) (d : Counts) : Type 0 where
 
 abbrev pub RightFits : Counts → Right → Counts → Type 0
 RightFits c (value e) d = Fits c (depth e) e d
-RightFits c (new n) d = IsName n × (c ≡ d)
-RightFits c (new_tmp n) d = IsName n × (c ≡ d)
-RightFits c (new_iso n m) d = IsName n × (c ≡ d)
+RightFits c (new n o) d = IsName n × AtFits c o d
+RightFits c (new_tmp n o) d = IsName n × AtFits c o d
+RightFits c (new_iso n o m) d = IsName n × AtFits c o d
 RightFits c (freeze n) d = IsName n × (c ≡ d)
 RightFits c (merge n) d = IsName n × (c ≡ d)
 RightFits c read d = c ≡ d
@@ -66,12 +80,27 @@ args-plain (e ∷ es) c d h = (h.1.0.plain, args-plain es h.0 d h.1.1)
 pub call-plain : (a : Call) (c d : Counts) → CallFits c a d → CallPlain a
 call-plain a c d h = record { target = h.target; method = h.method; args = args-plain a.args h.within h.behind h.args }
 
+size-plain : (o : Option Expr) (c d : Counts) → AtFits c o d → SizePlain o
+size-plain None c d h = tt
+size-plain (Some e) c d h = h.inner.plain
+
 pub right-plain : (r : Right) (c d : Counts) → RightFits c r d → RightPlain r
 right-plain (value e) c d h = h.plain
+right-plain (new n o) c d h = (h.0, size-plain o c d h.1)
+right-plain (new_tmp n o) c d h = (h.0, size-plain o c d h.1)
+right-plain (new_iso n o m) c d h = (h.0, size-plain o c d h.1)
 right-plain read c d h = tt
 right-plain more c d h = tt
 right-plain (result_of a) c d h = call-plain a c d h
 right-plain _ c d h = h.0
+
+-- what goes on no expression is no bracket
+no_at-row : (o : Option Kind) → Ends0 o → row p.At o ≡ Some []
+no_at-row o f = go o f.below.below.below.below.below.is
+  where
+    go : (o : Option Kind) → row p.Is o ≡ Some [] → row p.At o ≡ Some []
+    go (Some (k.Mark s.OpenBracket)) h = cc
+    go _ h = refl
 
 -- the words of capabilities and managers
 cap-is : (a : Cap) → cap_of (k.Word (cap_word a)) ≡ Some a
@@ -226,6 +255,24 @@ module _ (S : List ℕ) where
   call-read a c d from line rest v h =
       target-read c v.within v.behind d a.args a.method v.opens v.args v.closes a.target.base a.target.fields from line rest h
 
+  -- Expressions in brackets.
+
+  pub index-read : (e : Expr) (c d : Counts) (from line : ℕ) (rest : List Lexeme) → IndexFits c e d → Spelt S from (index_lexemes e rest)
+      → Read S form.At c (tokens_at from line (index_lexemes e rest)) (Some e) d rest
+  index-read e c d from line rest v h =
+      let r = expr-read e v.within v.behind (from + 1) line (mark s.CloseBracket ∷ rest) v.inner (ends-all refl refl refl refl refl refl refl) h in
+      leads c (closed v.behind) d v.closes
+      (record { from = r.from + 1; line = r.line; spelt = r.spelt; reads = at_row refl v.opens r.reads refl })
+
+  -- a size, where there is one, up to a token that begins none
+  size-read : (o : Option Expr) (c d : Counts) (from line : ℕ) (rest : List Lexeme) → AtFits c o d → row p.At (first_kind rest) ≡ Some []
+      → Spelt S from (size_lexemes o rest) → Read S form.At c (tokens_at from line (size_lexemes o rest)) o d rest
+  size-read None c d from line rest v f h =
+      leads c c d v (record { from = from; line = line; spelt = h; reads = no_at (rw (next-tokens_at from line rest) f) })
+  size-read (Some e) c d from line rest v f h =
+      let r = index-read e c d (from + 1) line rest v h in
+      record { from = r.from; line = r.line; spelt = r.spelt; reads = r.reads }
+
   -- Right sides.
 
   pub right-read : (a : Right) (c d : Counts) (from line : ℕ) (rest : List Lexeme) → RightFits c a d → Ends0 (first_kind rest)
@@ -238,31 +285,35 @@ module _ (S : List ℕ) where
         spelt = r.spelt;
         reads = value_row (rw (next-tokens_at from line (expr_lexemes e rest)) ((stands S e).begins rest).right) r.reads;
       }
-  right-read (new n) c d from line rest v f h = leads c c d v.1 (record {
-    from = from + 3 + 1 + length n;
-    line = line;
-    spelt = h.1;
-    reads = subst (λ x. Reads S form.Right c (tokens_at from line (right_lexemes (new n) rest)) (new x) c (tokens_at
-        (from + 3 + 1 + length n) line rest)) h.0
-        (new_row refl (new_plain refl));
-  })
-  right-read (new_tmp n) c d from line rest v f h = leads c c d v.1 (record {
-    from = from + 3 + 1 + 3 + 1 + length n;
-    line = line;
-    spelt = h.1;
-    reads = subst (λ x. Reads S form.Right c (tokens_at from line (right_lexemes (new_tmp n) rest)) (new_tmp x) c
-        (tokens_at (from + 3 + 1 + 3 + 1 + length n) line rest)) h.0 (new_row refl (new_temporary refl refl));
-  })
-  right-read (new_iso n m) c d from line rest v f h =
-      let r = manager-read m c (from + 3 + 1 + 3 + 1 + length n + 1 + 2 + 1) line rest h.1 in
-      leads c c d v.1 (record {
+  right-read (new n o) c d from line rest v f h =
+      let r = size-read o c d (from + 3 + 1 + length n) line rest v.1 (no_at-row _ f) h.1 in
+      record {
         from = r.from;
         line = r.line;
         spelt = r.spelt;
-        reads = subst (λ x. Reads S form.Right c (tokens_at from line (right_lexemes (new_iso n m) rest)) (new_iso x m) c
-            (tokens_at r.from r.line rest)) h.0
-            (new_row refl (new_region refl refl refl r.reads));
-      })
+        reads = subst (λ x. Reads S form.Right c (tokens_at from line (right_lexemes (new n o) rest)) (new x o) d (tokens_at r.from r.line rest))
+            h.0 (new_row refl (new_plain refl r.reads));
+      }
+  right-read (new_tmp n o) c d from line rest v f h =
+      let r = size-read o c d (from + 3 + 1 + 3 + 1 + length n) line rest v.1 (no_at-row _ f) h.1 in
+      record {
+        from = r.from;
+        line = r.line;
+        spelt = r.spelt;
+        reads = subst (λ x. Reads S form.Right c (tokens_at from line (right_lexemes (new_tmp n o) rest)) (new_tmp x o) d
+            (tokens_at r.from r.line rest)) h.0 (new_row refl (new_temporary refl refl r.reads));
+      }
+  right-read (new_iso n o m) c d from line rest v f h =
+      let all = space ∷ word w.In ∷ space ∷ word (manager_word m) ∷ rest in
+      let r = size-read o c d (from + 3 + 1 + 3 + 1 + length n) line all v.1 refl h.1 in
+      let q = manager-read m d (r.from + 1 + 2 + 1) r.line rest r.spelt in
+      record {
+        from = q.from;
+        line = q.line;
+        spelt = q.spelt;
+        reads = subst (λ x. Reads S form.Right c (tokens_at from line (right_lexemes (new_iso n o m) rest)) (new_iso x o m) d
+            (tokens_at q.from q.line rest)) h.0 (new_row refl (new_region refl refl r.reads refl q.reads));
+      }
   right-read (freeze n) c d from line rest v f h = leads c c d v.1 (record {
     from = from + 6 + 1 + length n;
     line = line;

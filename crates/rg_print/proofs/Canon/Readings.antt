@@ -10,7 +10,7 @@ use Rattle.rg_base.specs.declared.token.Kind.TheVariants as k
 use Rattle.rg_base.specs.declared.token.Token.{Token}
 use Rattle.rg_base.specs.Tokens.{line_behind}
 use Rattle.rg_tree.specs.declared.counts.Counts.{Counts}
-use Rattle.rg_tree.specs.Tree.{Name, Variable, Expr, neg, not, binary}
+use Rattle.rg_tree.specs.Tree.{Name, Variable, Expr, neg, not, binary, element}
 use Rattle.rg_tree.specs.Canonical.{level, left_level, right_level}
 use Rattle.rg_tree.specs.Counts.{opened, closed, one_sign}
 use Rattle.rg_tree.specs.Phrases.{the}
@@ -94,6 +94,7 @@ abbrev pub signs : Expr → ℕ
 signs (neg a) = signs a
 signs (not a) = signs a
 signs (binary op a b) = signs a + signs b + 1
+signs (element q e) = signs e
 signs _ = 0
 
 -- one more, where it is so
@@ -101,11 +102,12 @@ abbrev pub one_if : Bool → ℕ → ℕ
 one_if true n = n + 1
 one_if false n = n
 
--- how many parentheses stand round one place
+-- how many parentheses and brackets stand round one place
 abbrev pub depth : Expr → ℕ
 depth (neg a) = one_if (nat_lt (level a) 7) (depth a)
 depth (not a) = one_if (nat_lt (level a) 3) (depth a)
 depth (binary op a b) = max (one_if (nat_lt (level a) (left_level op)) (depth a)) (one_if (nat_lt (level b) (right_level op)) (depth b))
+depth (element q e) = depth e + 1
 depth _ = 0
 
 -- from i signs an expression of a depth leads to j, within the limits

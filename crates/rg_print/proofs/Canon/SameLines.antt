@@ -5,6 +5,8 @@ use Rattle.rg_base.specs.declared.token.Kind.TheVariants as k
 use Rattle.rg_base.specs.declared.token.Token.{Token}
 use Rattle.rg_tree.specs.Tree.{Name, Ty, Block, Param, Member, field, method, Class}
 use Rattle.rg_tree.specs.Lineless.{block_lineless, member_lineless, class_lineless}
+use Rattle.rg_tree.specs.Forms as form
+use Rattle.rg_tree.specs.Forms.{Given}
 use Rattle.rg_tree.specs.Grammar.{text}
 use Rattle.rg_print.proofs.Canon.LexemeCuts.{IsName}
 use Rattle.rg_print.proofs.Canon.FineTokens.{FineKind}
@@ -20,17 +22,22 @@ names-push [] n h i = (i, tt)
 names-push (x ∷ ns) n h i = (h.0, names-push ns n h.1 i)
 
 -- the same but for lines
-pub class-same : (v : Bool) (n m : Name) (as' bs : List Member) (i j : ℕ) → n ≡ m → map member_lineless as' ≡ map member_lineless bs
-    → class_lineless (record { name = n; is_tmp = v; members = as'; line = i }) ≡ class_lineless (record {
+abbrev pub rest_lineless : Given form.ClassRest → Given form.ClassRest
+rest_lineless r = (r.0, map member_lineless r.1)
+
+pub class-same : (v : Bool) (n m : Name) (x y : Given form.ClassRest) (i j : ℕ) → n ≡ m → rest_lineless x ≡ rest_lineless y
+    → class_lineless (record { name = n; is_tmp = v; element = x.0; members = x.1; line = i }) ≡ class_lineless (record {
       name = m;
       is_tmp = v;
-      members = bs;
+      element = y.0;
+      members = y.1;
       line = j;
     })
-class-same v n m as' bs i j h e = class-apart (map member_lineless as') (map member_lineless bs) h e
+class-same v n m x y i j h e = class-apart (rest_lineless x) (rest_lineless y) h e
   where
-    class-apart : (x y : List Member) → n ≡ m → x ≡ y
-        → ◌≡◌ {A = Class} (record { name = n; is_tmp = v; members = x; line = 0 }) (record { name = m; is_tmp = v; members = y; line = 0 })
+    class-apart : (x y : Given form.ClassRest) → n ≡ m → x ≡ y
+        → ◌≡◌ {A = Class} (record { name = n; is_tmp = v; element = x.0; members = x.1; line = 0 })
+        (record { name = m; is_tmp = v; element = y.0; members = y.1; line = 0 })
     class-apart x y h e = cc
 
 pub field-same : (n m : Name) (t : Ty) (as' bs : List Member) (i j : ℕ) → n ≡ m → map member_lineless as' ≡ map member_lineless bs

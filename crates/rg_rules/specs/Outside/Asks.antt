@@ -1,4 +1,4 @@
--- The steps at which a pacer is asked: those that make an object by `new C` while the active region has its manager
+-- The steps at which a pacer is asked: those that make an object by `new C` or `new C [e]` while the active region has its manager
 -- (docs/language.md, "Steps").
 use Rattle.std.specs.Prelude.{ℕ, zero, suc, ◌+◌, Bool as Truth, true, false, ◌&&◌, List, [], ◌∷◌, Option, Some, None, is_some, unwrap_or}
 use Rattle.std.specs.Prelude.{option_map, option_and_then, slice_get}
@@ -6,13 +6,13 @@ use Rattle.rg_base.specs.declared.words.Manager.{Manager}
 use Rattle.rg_base.specs.declared.words.Manager.TheVariants.{Arena, Count, Trace}
 use Rattle.rg_tree.specs.Tree.{Right, stmt, StmtKind, Class, Tree}
 use Rattle.rg_rules.specs.Types.{class_named}
+use Rattle.rg_rules.specs.Items.{Item, Do, EndAt, LeaveAt, LeaveGiving, Back}
 use Rattle.rg_rules.specs.Rights.{right_of, right_made}
-use Rattle.rg_rules.specs.Items.{Item, Do, EndAt, LeaveAt, Back}
 use Rattle.rg_rules.specs.State.{State, active}
 use Rattle.rg_rules.specs.Steps.{Stepped, Went, Trapped, step_item}
 use Rattle.rg_rules.specs.Runs.{opening}
 
--- whether a right side is `new C` of a class that is there
+-- whether a right side is `new C` or `new C [e]` of a class that is there
 abbrev pub right_makes : List Class → Right → Truth
 right_makes classes r = is_some (option_and_then (class_named classes) (right_made r))
 
@@ -20,11 +20,12 @@ right_makes classes r = is_some (option_and_then (class_named classes) (right_ma
 abbrev pub kind_makes : List Class → StmtKind → Truth
 kind_makes classes k = unwrap_or (option_map (right_makes classes) (right_of k)) false
 
--- whether an item makes an object by `new C`
+-- whether an item makes an object by `new C` or `new C [e]`
 abbrev pub item_makes : List Class → Item → Truth
 item_makes classes (Do (stmt line k)) = kind_makes classes k
 item_makes classes (EndAt k) = false
 item_makes classes (LeaveAt k) = false
+item_makes classes (LeaveGiving line k w) = false
 item_makes classes Back = false
 
 -- whether one manager is the other, and has a pacer; an arena has none

@@ -16,10 +16,10 @@ lines n [] = empty
 lines n (k ∷ ks) = then (stmt n k) (lines (suc n) ks)
 
 abbrev pub class_named : String → List Member → Class
-class_named c members = record { name = codes c; is_tmp = false; members = members; line = 1 }
+class_named c members = record { name = codes c; is_tmp = false; element = None; members = members; line = 1 }
 
 abbrev pub tmp_class : String → List Member → Class
-tmp_class c members = record { name = codes c; is_tmp = true; members = members; line = 1 }
+tmp_class c members = record { name = codes c; is_tmp = true; element = None; members = members; line = 1 }
 
 abbrev pub method_named : Cap → String → List Param → Option Ty → Block → Member
 method_named k m ps r body = method (record { receiver = k; name = codes m; params = ps; result = r; body = body; line = 1 })
@@ -43,27 +43,27 @@ all_kinds = record {
   manager = manager.Arena;
   line = 1;
   body = lines 2
-      (declare (codes "a") (to cap.Mut "N") (new (codes "N"))
-      ∷ declare (codes "x") (to cap.Iso "N") (new_iso (codes "N") manager.Trace)
-      ∷ declare (codes "y") (to cap.Iso "N") (new_iso (codes "N") manager.Count)
+      (declare (codes "a") (to cap.Mut "N") (new (codes "N") None)
+      ∷ declare (codes "x") (to cap.Iso "N") (new_iso (codes "N") None manager.Trace)
+      ∷ declare (codes "y") (to cap.Iso "N") (new_iso (codes "N") None manager.Count)
       ∷ swap (codes "y") (dot "a" "down")
       ∷ assign (var "x") (result_of (call_of (var "a") "go" (use_of "x" ∷ [])))
       ∷ enter (var "x") (codes "z") (lines 20
-      (declare (codes "t") (to cap.Tmp "T") (new_tmp (codes "T"))
+      (declare (codes "t") (to cap.Tmp "T") (new_tmp (codes "T") None)
       ∷ assign (dot "t" "p") (value (use_of "a"))
       ∷ assign (dot "t" "m") (value (use_of "z"))
-      ∷ declare (codes "w") (to cap.Iso "N") (new_iso (codes "N") manager.Arena)
+      ∷ declare (codes "w") (to cap.Iso "N") (new_iso (codes "N") None manager.Arena)
       ∷ swap (codes "w") (dot "z" "down")
       ∷ enter (dot "z" "down") (codes "u") (lines 40
       (assign (dot "u" "v") (value (number (pos 3)))
-      ∷ call (call_of (var "u") "put" []) ∷ []))
-      ∷ declare (codes "q") (to cap.Iso "N") (new_iso (codes "N") manager.Arena)
-      ∷ swap (codes "q") (dot "t" "y") ∷ []))
+      ∷ call (call_of (var "u") "put" []) ∷ [])) None
+      ∷ declare (codes "q") (to cap.Iso "N") (new_iso (codes "N") None manager.Arena)
+      ∷ swap (codes "q") (dot "t" "y") ∷ [])) None
       ∷ declare (codes "k") int (value (number (pos 0)))
       ∷ while (binary op.Lt (use_of "k") (number (pos 2))) (lines 60
       (branch (is_nil (var "y")) (lines 70 (assign (var "k") (value (binary op.Add (use_of "k") (number (pos 1)))) ∷ [])) no_else ∷ []))
       ∷ declare (codes "i") (to cap.Imm "N") (freeze (codes "x"))
-      ∷ declare (codes "n") (to cap.Iso "N") (new_iso (codes "N") manager.Arena)
+      ∷ declare (codes "n") (to cap.Iso "N") (new_iso (codes "N") None manager.Arena)
       ∷ declare (codes "b") (to cap.Mut "N") (merge (codes "n"))
       ∷ assign (dot "a" "next") (value (use_of "b")) ∷ print (use_of "k") ∷ []);
 }
@@ -73,9 +73,9 @@ all_kinds = record {
 abbrev digger : Class
 digger = class_named "D" (field_named "v" int ∷ field_named "next" (to cap.Mut "D") ∷ field_named "down" (to cap.Iso "D")
     ∷ method_named cap.Mut "dig" [] None (lines 101
-    (declare (codes "d") (to cap.Iso "D") (new_iso (codes "D") manager.Arena)
+    (declare (codes "d") (to cap.Iso "D") (new_iso (codes "D") None manager.Arena)
     ∷ swap (codes "d") (self_dot "down")
-    ∷ enter (self_dot "down") (codes "u") (lines 110 (assign (dot "u" "v") (value (number (pos 1))) ∷ [])) ∷ [])) ∷ [])
+    ∷ enter (self_dot "down") (codes "u") (lines 110 (assign (dot "u" "v") (value (number (pos 1))) ∷ [])) None ∷ [])) ∷ [])
 
 -- tmp class T { }
 abbrev mark : Class
@@ -91,15 +91,15 @@ inner = record {
   line = 1;
   body = lines 2
       (declare (codes "k") int (value (number (pos 0)))
-      ∷ declare (codes "a") (to cap.Mut "D") (new (codes "D"))
-      ∷ declare (codes "y") (to cap.Iso "D") (new_iso (codes "D") manager.Trace)
+      ∷ declare (codes "a") (to cap.Mut "D") (new (codes "D") None)
+      ∷ declare (codes "y") (to cap.Iso "D") (new_iso (codes "D") None manager.Trace)
       ∷ enter (var "y") (codes "z") (lines 20
       (assign (var "k") (value (number (pos 1)))
       ∷ assign (dot "z" "v") (value (number (pos 3)))
-      ∷ declare (codes "t") (to cap.Tmp "T") (new_tmp (codes "T"))
-      ∷ declare (codes "n") (to cap.Iso "D") (new_iso (codes "D") manager.Arena)
+      ∷ declare (codes "t") (to cap.Tmp "T") (new_tmp (codes "T") None)
+      ∷ declare (codes "n") (to cap.Iso "D") (new_iso (codes "D") None manager.Arena)
       ∷ declare (codes "b") (to cap.Mut "D") (merge (codes "n"))
       ∷ assign (dot "z" "next") (value (use_of "b"))
-      ∷ call (call_of (var "z") "dig" []) ∷ []))
+      ∷ call (call_of (var "z") "dig" []) ∷ [])) None
       ∷ declare (codes "i") (to cap.Imm "D") (freeze (codes "y")) ∷ []);
 }

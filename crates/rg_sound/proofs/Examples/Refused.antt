@@ -1,6 +1,6 @@
 -- Programs that would break a part of the invariant, or write where they mayn't: what the checker says of each
 -- (docs/language.md, "What always holds").
-use Rattle.std.proofs.Common.{◌≡◌, refl, true, List, [], ◌∷◌, Some, codes, pos}
+use Rattle.std.proofs.Common.{◌≡◌, refl, true, List, [], ◌∷◌, Some, None, codes, pos}
 use Rattle.rg_base.specs.declared.fault.Code.TheVariants as code
 use Rattle.rg_base.specs.declared.words.Cap.TheVariants as cap
 use Rattle.rg_base.specs.declared.words.Manager.TheVariants as manager
@@ -16,12 +16,13 @@ with_body ks = record {
   manager = manager.Arena;
   line = 1;
   body = lines 2
-      (declare (codes "a") (to cap.Mut "N") (new (codes "N")) ∷ declare (codes "y") (to cap.Iso "N") (new_iso (codes "N") manager.Trace) ∷ ks);
+      (declare (codes "a") (to cap.Mut "N") (new (codes "N") None) ∷ declare (codes "y") (to cap.Iso "N") (new_iso (codes "N") None manager.Trace) ∷
+      ks);
 }
 
 -- `enter y as z { .. }`, whose body begins at line 10
 abbrev within : StmtKind → List StmtKind
-within k = enter (var "y") (codes "z") (lines 10 (k ∷ [])) ∷ []
+within k = enter (var "y") (codes "z") (lines 10 (k ∷ [])) None ∷ []
 
 -- frames: a method goes back from inside a block
 back_early : first_fault (record (with_body []) {

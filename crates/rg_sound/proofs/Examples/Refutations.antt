@@ -12,7 +12,7 @@ use Rattle.rg_base.specs.declared.object.Place.TheVariants as place
 use Rattle.rg_base.specs.declared.object.Seen.{Seen}
 use Rattle.rg_base.specs.declared.value.Val.TheVariants as val
 use Rattle.rg_tree.specs.Tree.{empty, Class, Tree}
-use Rattle.rg_rules.specs.Types.{type_of, fields_of}
+use Rattle.rg_rules.specs.Types.{type_of}
 use Rattle.rg_rules.specs.Items.{Item, EndAt}
 use Rattle.rg_rules.specs.Bodies.{Body, main_body}
 use Rattle.rg_rules.specs.Points.{Point, here, behind, inside, Spot, spot_at}
@@ -22,8 +22,9 @@ use Rattle.rg_rules.specs.Owners.{Forest, leads_into}
 use Rattle.rg_rules.specs.Runs.{plain_from, opening}
 use Rattle.rg_sound.specs.Frames.{FramesFit}
 use Rattle.rg_sound.specs.Values.{Leads, MeetsBy, ValuesFit}
-use Rattle.rg_sound.specs.Objects.{FieldFits, FieldsMeet, ObjectsFit}
+use Rattle.rg_sound.specs.Objects.{FieldFits, FieldsMeet, fields_in, ObjectsFit}
 use Rattle.rg_sound.specs.OpenRegions.{IsOwned, OpenFit}
+use Rattle.rg_sound.specs.Bridges.{BridgesFit}
 use Rattle.rg_sound.specs.Numbers.{NumbersFit}
 use Rattle.rg_sound.proofs.Basics.{none-some}
 use Rattle.rg_sound.proofs.Opening.{opening-fits}
@@ -61,8 +62,8 @@ leads-frozen classes store ws fits a k b r frozen leads lies = by (slice_get sto
         option_and_then (λ (q : Seen). slice_get q.fields k) o ≡ Some (val.Obj b) → ⊥
     by None there f e = none-some f
     by (Some o) there f e =
-        let P : Label → Type 0 = λ q. FieldsMeet classes store (FieldFits ws q) (fields_of classes o.class) o.fields in
-        let m = slot-meets classes store (λ cap l. l ≡ label.Frozen) (fields_of classes o.class) o.fields k (val.Obj b)
+        let P : Label → Type 0 = λ q. FieldsMeet classes store (FieldFits ws q) (fields_in classes (fits a o there).class o) o.fields in
+        let m = slot-meets classes store (λ cap l. l ≡ label.Frozen) (fields_in classes (fits a o there).class o) o.fields k (val.Obj b)
         (subst P (same_Some o.label label.Frozen f) (fits a o there).fields) e in
         of_type (type_of classes m.field.ty) m.meets
 
@@ -110,7 +111,7 @@ frames-refused (inl r) =
     no_spot r.point r.spot r.first r.more r.rest (subst P r.beneath.0 r.spot_is) r.begins r.items_are
 frames-refused (inr e) = let no_items : EndAt 1 ∷ [] ≡ [] = e.no_item in grind arith
 
--- the other five parts hold
+-- the other six parts hold
 frames-alone : Data [] ends_wrong.store ends_wrong.frames ends_wrong.windows (length ends_wrong.managers) ends_wrong.windows_made
 frames-alone = fit-data quiet (opening quiet []) (opening-fits quiet [])
 
@@ -166,15 +167,16 @@ numbers-refused : ¬ NumbersFit given_wrong.store given_wrong.windows (length gi
 unfolding plain_from
 numbers-refused h = not_below (h.given 0 _ refl).number
 
--- the other five parts hold
+-- the other six parts hold
 pub record AllButNumbers (t : Tree) (s : State) : Type 0 where
   pub frames : FramesFit t s.frames s.windows s.items
   pub values : ValuesFit s.store s.windows s.frames
   pub objects : ObjectsFit t.classes s.store s.windows
   pub opened : OpenFit t.classes s.store s.frames s.windows
+  pub bridges : BridgesFit t.classes s.store s.frames s.windows
   pub forest : Forest t.classes s.store s.frames
 
 numbers-alone : AllButNumbers all_kinds given_wrong
 numbers-alone =
     let f = run-fits all_kinds accepted [] 9 in
-    record { frames = f.frames; values = f.values; objects = f.objects; opened = f.opened; forest = f.forest }
+    record { frames = f.frames; values = f.values; objects = f.objects; opened = f.opened; bridges = f.bridges; forest = f.forest }

@@ -12,14 +12,14 @@ use Rattle.rg_base.specs.declared.object.Seen.{Seen}
 use Rattle.rg_base.specs.declared.value.Val.{Val}
 use Rattle.rg_base.specs.declared.object.Place.{Place}
 use Rattle.rg_base.specs.declared.object.Place.TheVariants.{Var, Field}
-use Rattle.rg_tree.specs.Tree.{Name, Variable, Path, Stmt, stmt, StmtKind, declare, assign, call, swap, branch, while, enter, print, collect, return}
-use Rattle.rg_tree.specs.Tree.{Else, no_else, otherwise, Block, empty as none, then as next, Method, Class, Tree}
+use Rattle.rg_tree.specs.Tree.{Name, Variable, Path, Stmt, stmt, StmtKind, declare, assign, assign_element, call, swap, branch, while, enter, print}
+use Rattle.rg_tree.specs.Tree.{collect, return, Else, no_else, otherwise, Block, empty as none, then as next, Method, Class, Tree}
 use Rattle.rg_rules.specs.Capabilities.{same_type}
 use Rattle.rg_rules.specs.Types.{methods_of}
 use Rattle.rg_rules.specs.Environment.{Env, Entry, same_variable, is_lent}
 use Rattle.rg_rules.specs.Paths.{walk}
 use Rattle.rg_rules.specs.Statements.{judge_stmt, judge_test, judge_enter, last_of}
-use Rattle.rg_rules.specs.Items.{Item, Do, EndAt, LeaveAt, Back, items_of}
+use Rattle.rg_rules.specs.Items.{Item, Do, EndAt, LeaveAt, LeaveGiving, Back, leave_of, items_of}
 use Rattle.rg_rules.specs.Bodies.{Body, main_body, method_body}
 use Rattle.rg_rules.specs.Points.{Spot}
 use Rattle.rg_rules.specs.State.{Local, Target, Declares, Assigns, Drops, Frame, Window, State, active, top_number}
@@ -45,6 +45,7 @@ abbrev mutual
   spots_of_kind : List Class → Env → ℕ → StmtKind → List Item → List Path → List Spot
   spots_of_kind classes env line (declare x t r) after round = []
   spots_of_kind classes env line (assign p r) after round = []
+  spots_of_kind classes env line (assign_element q e r) after round = []
   spots_of_kind classes env line (call c) after round = []
   spots_of_kind classes env line (swap y p) after round = []
   spots_of_kind classes env line (branch e b other) after round = elim (judge_test classes env e) [
@@ -56,8 +57,8 @@ abbrev mutual
     | Ok front ↦ spots_in classes None front b (EndAt (length env.entries) ∷ Do (stmt line (while e b)) ∷ after) round
     | Err c ↦ []
   ]
-  spots_of_kind classes env line (enter p z b) after round = elim (judge_enter classes env p.base p.fields z) [
-    | Ok front ↦ spots_in classes None front b (LeaveAt (length env.entries) ∷ after) (round ++ p ∷ [])
+  spots_of_kind classes env line (enter p z b giving) after round = elim (judge_enter classes env p.base p.fields z) [
+    | Ok front ↦ spots_in classes None front b (leave_of line (length env.entries) giving ∷ after) (round ++ p ∷ [])
     | Err c ↦ []
   ]
   spots_of_kind classes env line (print e) after round = []
@@ -93,6 +94,7 @@ abbrev same_item : Item → Item → Truth
 same_item (Do s) (Do u) = line_of s == line_of u
 same_item (EndAt k) (EndAt j) = k == j
 same_item (LeaveAt k) (LeaveAt j) = k == j
+same_item (LeaveGiving line k w) (LeaveGiving at j x) = line == at && k == j && bytes_eq w x
 same_item Back Back = true
 same_item i j = false
 
@@ -179,6 +181,7 @@ calling [] = None
 calling (Do (stmt line k) ∷ mine) = Some (k, mine)
 calling (EndAt k ∷ mine) = None
 calling (LeaveAt k ∷ mine) = None
+calling (LeaveGiving line k w ∷ mine) = None
 calling (Back ∷ mine) = None
 
 abbrev beneath : List Class → List Candidate → List Frame → List Window → List Item → Candidate → Target → Truth

@@ -14,10 +14,11 @@ use Rattle.rg_base.specs.declared.object.Seen.{Seen}
 use Rattle.rg_base.specs.declared.value.Val.{Val}
 use Rattle.rg_base.specs.declared.value.Val.TheVariants.{Nil, Int as IntVal, Bool as BoolVal, Obj}
 use Rattle.rg_tree.specs.Tree.{Field as FieldOfClass, Class}
-use Rattle.rg_rules.specs.Types.{type_of, fields_of}
+use Rattle.rg_rules.specs.Types.{type_of}
 use Rattle.rg_rules.specs.State.{Local, Frame, Window, State}
 use Rattle.rg_rules.specs.Values.{same_truth}
 use Rattle.rg_rules.specs.Owners.{leads_into}
+use Rattle.rg_sound.specs.Objects.{fields_in}
 use Rattle.rg_sound.specs.Windows.{windows_of, windows_from}
 
 -- Labels and values
@@ -113,7 +114,7 @@ fields_meet classes store fits (f ∷ fs) (v ∷ vs) = meets_by store fits (type
 abbrev pub object_fits : List Class → List Seen → List Window → Seen → Truth
 object_fits classes store ws o = elim (slice_get classes o.class) [
   | None ↦ false
-  | Some c ↦ same_truth (is_temp o.label) c.is_tmp && fields_meet classes store (field_fits ws o.label) (fields_of classes o.class) o.fields
+  | Some c ↦ same_truth (is_temp o.label) c.is_tmp && fields_meet classes store (field_fits ws o.label) (fields_in classes c o) o.fields
 ]
 
 -- The open regions and the forest: the places of owner references, with the regions that they lead into

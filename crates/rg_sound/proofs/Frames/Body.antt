@@ -2,12 +2,12 @@
 use Rattle.std.proofs.Common.{◌≡◌, refl, ◌∙◌, ap, subst, ◌⊎◌, inl, inr, ℕ, true, false, List, [], ◌∷◌, ◌++◌, length, Option, Some, None, Ok, arith}
 use Rattle.std.specs.Result.{result_ok}
 use Rattle.rg_base.specs.declared.ty.Ty.{Ty}
-use Rattle.rg_tree.specs.Tree.{Path, Ty as Written, stmt, StmtKind, declare, assign, call, swap, branch, while, enter, print, collect, return, Block}
+use Rattle.rg_tree.specs.Tree.{Path, Ty as Written, stmt, StmtKind, branch, while, enter, Block}
 use Rattle.rg_tree.specs.Tree.{empty as none, then as next, Method, Class, Tree}
 use Rattle.rg_rules.specs.Types.{method_named}
 use Rattle.rg_rules.specs.Environment.{Env}
 use Rattle.rg_rules.specs.Statements.{judge_stmt, judge_block, last_of}
-use Rattle.rg_rules.specs.Items.{Item, Do, EndAt, LeaveAt, Back, items_of}
+use Rattle.rg_rules.specs.Items.{Item, Do, EndAt, Back, leave_of, items_of}
 use Rattle.rg_rules.specs.Bodies.{Body, main_body, method_body, method_end, is_return, last_is_return, ends_in_return, gives_result}
 use Rattle.rg_rules.specs.Points.{Side, Point, here, behind, inside, Spot, spot_in, Opened, inner_block, block_end, entered_path}
 use Rattle.rg_rules.specs.Acceptance.{Accepted}
@@ -79,7 +79,7 @@ pub block_end-begins : (classes : List Class) (env : Env) (n line : ℕ) (k : St
     inner_block classes env k side ≡ Some i → Begins (block_end n line k ++ more)
 block_end-begins classes env n line (branch c b other) side i more e = record { first = EndAt n; more = more; is = refl }
 block_end-begins classes env n line (while c b) side i more e = record { first = EndAt n; more = Do (stmt line (while c b)) ∷ more; is = refl }
-block_end-begins classes env n line (enter p z b) side i more e = record { first = LeaveAt n; more = more; is = refl }
+block_end-begins classes env n line (enter p z b giving) side i more e = record { first = leave_of line n giving; more = more; is = refl }
 block_end-begins classes env n line _ side i more e = grind arith
 
 -- behind the first statement of a block an item is left, if it isn't a `return`

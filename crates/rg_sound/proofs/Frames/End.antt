@@ -19,8 +19,12 @@ use Rattle.rg_sound.proofs.Frames.Spot.{AllWithin, spot-right}
 use Rattle.rg_sound.proofs.Frames.SpotEnd.{EndsAt, EndsOuter, EndsInner, spot-end}
 use Rattle.rg_sound.proofs.Owners.Owner.{AllOwners, AllOwners-map, get-take}
 use Rattle.rg_sound.proofs.Owners.Data.{Data, fit-data, data-fit, shrink-locals}
-use Rattle.rg_sound.proofs.Frames.Stands.{IsBefore, all-before, stands-less, Entered-length, front-own, own-before, owned-grounded, Grounded}
+use Rattle.rg_sound.proofs.Frames.Stands.{IsBefore, all-before, stands-less, Entered-length, front-own, own-before, owned-grounded, grounded-under}
+use Rattle.rg_sound.proofs.Frames.Stands.{Grounded}
 use Rattle.rg_sound.proofs.Frames.Top.{Top, running-top, leads-taken}
+use Rattle.rg_sound.specs.Bridges.{BridgesFit}
+use Rattle.rg_sound.proofs.Frames.Below.{AllBelow, spot-below}
+use Rattle.rg_sound.proofs.Owners.Bridge.{AllCut, AllCut-append, own-cut, beneath-cut, cut-keeps, bridges-end}
 
 -- what ends runs
 pub running-item : (t : Tree) (f : Frame) (fs : List Frame) (ws : List Window) (i : Item) (later : List Item) → FramesFit t (f ∷ fs) ws (i ∷ later) →
@@ -49,6 +53,7 @@ after-main t (f ∷ fs) ws items b target k mine h e = elim (h.7) [
 record Ends (t : Tree) (f : Frame) (fs : List Frame) (ws : List Window) (k : ℕ) (later : List Item) : Type 0 where
   pub fit : FramesFit t (record f { locals = take k f.locals } ∷ fs) ws later
   pub before : AllOwners ws (IsBefore (length fs) k)
+  pub cut : AllCut (length fs) k ws
 
 end-outer : (t : Tree) (f : Frame) (fs : List Frame) (ws : List Window) (k : ℕ) (later : List Item) (r : Running t f fs ws (EndAt k ∷ later)) →
     Grounded ws → (out : Env) → later ≡ r.more ++ r.rest → EndsOuter out r.body.after [] r.spot (EndAt k) r.more → Ends t f fs ws k later
@@ -63,6 +68,8 @@ end-outer t f fs ws k later r ground out others o =
       fit = inr (record { no_variable = rw (m.1, m.5) refl; one_frame = m.0; one_window = (m.3.0, m.3.1, windows); no_item = nothing });
       before = let P : List Window → Type 0 = λ q. AllOwners q (IsBefore (length fs) k) in subst P (sym windows)
           (let Q : List Window → Type 0 = λ q. Grounded q in λ p e. none-some (sym (subst Q windows ground) ∙ e), tt);
+      cut = (let P : List Window → Type 0 = λ q. AllCut (length fs) k q in
+          let Q : List Window → Type 0 = λ q. Grounded q in subst P (sym windows) (λ p e. none-some (sym (subst Q windows ground) ∙ e), tt));
     }
   where
     no_length : (us : List Window) → 0 ≡ length us → us ≡ []
@@ -70,9 +77,9 @@ end-outer t f fs ws k later r ground out others o =
     no_length (u ∷ us) e = absurd (omega (arith, e))
 
 end-inner : (t : Tree) (f : Frame) (fs : List Frame) (ws : List Window) (k : ℕ) (later : List Item) (r : Running t f fs ws (EndAt k ∷ later)) →
-    (top : Top t f fs ws (EndAt k ∷ later) r) → later ≡ r.more ++ r.rest → r.spot.items ≡ EndAt k ∷ r.more →
+    (top : Top t f fs ws (EndAt k ∷ later) r) → Grounded ws → later ≡ r.more ++ r.rest → r.spot.items ≡ EndAt k ∷ r.more →
     EndsInner t.classes r.body.result r.body.front r.body.block r.body.after [] r.spot (EndAt k) r.more → Ends t f fs ws k later
-end-inner t f fs ws k later r top others items o =
+end-inner t f fs ws k later r top ground others items o =
     let c : EndsAt k o.to o.enters r.spot = o.closes in
     let bound : AllWithin (length r.body.front.entries) (leaves r.body.after) =
     let P : List ℕ → Type 0 = λ q. AllWithin (length r.body.front.entries) q in subst P (sym top.front.no_leave) tt in
@@ -87,6 +94,16 @@ end-inner t f fs ws k later r top others items o =
     r.stands.entered top.in_front bases top.elsewhere in
     let P : ℕ → Type 0 = λ n. AllOwners ws (IsBefore (length fs) n) in
     let Q : List Window → Type 0 = λ q. AllOwners q (IsBefore (length fs) (length o.to.entries)) in
+    let none_yet : AllBelow (length r.body.front.entries) (leaves r.body.after) =
+    let P : List ℕ → Type 0 = λ q. AllBelow (length r.body.front.entries) q in subst P (sym top.front.no_leave) tt in
+    let below = spot-below t.classes r.body.result r.body.front top.right.out r.body.block r.body.after [] o.point _ top.front.distinct none_yet
+    top.right.judged o.spot_is in
+    let bases_below : AllBelow (length o.to.entries) (map (λ (w : Window). w.base_place) r.own) =
+    let P : List ℕ → Type 0 = λ q. AllBelow (length o.to.entries) q in subst P (sym (r.stands.bases ∙ ends)) below in
+    let G : List Window → Type 0 = λ q. Grounded q in
+    let cut = AllCut-append (length fs) (length o.to.entries) r.own r.under (own-cut (length fs) (length o.to.entries) r.own bases_below)
+    (beneath-cut t fs r.under r.rest r.body f.target r.beneath (grounded-under r.own r.under (subst G r.windows_are ground)) (length fs)
+    (length o.to.entries) (omega arith)) in
     let n = o.left in
     record {
       fit = inl (record {
@@ -107,6 +124,8 @@ end-inner t f fs ws k later r top others items o =
         beneath = r.beneath;
       });
       before = subst P (sym c.kept) (subst Q (sym r.windows_are) all);
+      cut = (let R : ℕ → Type 0 = λ n. AllCut (length fs) n ws in
+          let S : List Window → Type 0 = λ q. AllCut (length fs) (length o.to.entries) q in subst R (sym c.kept) (subst S (sym r.windows_are) cut));
     }
 
 end_runs : (t : Tree) → Accepted t → (s : State) (k : ℕ) (later : List Item) → Fit t s → (f : Frame) (fs : List Frame) → s.frames ≡ f ∷ fs →
@@ -125,7 +144,8 @@ end_runs t a s k later fit f fs at is =
     elim e [
       | inl o ↦ end-outer t f fs s.windows k later r
           (owned-grounded t.classes s.store (f ∷ fs) s.windows (subst R at fit.opened.owned)) top.right.out first.1 o
-      | inr o ↦ end-inner t f fs s.windows k later r top first.1 first.0 o
+      | inr o ↦ end-inner t f fs s.windows k later r top (owned-grounded t.classes s.store (f ∷ fs) s.windows (subst R at fit.opened.owned))
+          first.1 first.0 o
     ]
 
 end_fits : (t : Tree) → Accepted t → (s : State) (k : ℕ) (later : List Item) → s.items ≡ EndAt k ∷ later → Fit t s → (fs : List Frame) →
@@ -143,6 +163,10 @@ end_fits t a s k later is fit (f ∷ fs) at =
     data-fit t (keep_locals k (record s { items = later }))
     (let Q : List Frame → Type 0 = λ q. FramesFit t q s.windows later in subst Q (sym frames) e.fit)
     (let Q : List Frame → Type 0 = λ q. Data t.classes s.store q s.windows (length s.managers) s.windows_made in subst Q (sym frames) now)
+    (let Q : List Frame → Type 0 = λ q. BridgesFit t.classes s.store q s.windows in
+    let B = subst Q at fit.bridges in
+    subst Q (sym frames) (bridges-end t.classes s.store (f ∷ fs) (record f { locals = take k f.locals } ∷ fs) s.windows
+    (cut-keeps f (record f { locals = take k f.locals }) fs k s.windows refl e.cut e.before) B))
 
 pub end-keeps : EndKeeps
 end-keeps k t s u rest a f e went =

@@ -1,24 +1,27 @@
 -- Behind a statement there are the variables that were in front of it: at the same depths, and lent where they were.
-use Rattle.std.proofs.Common.{◌≡◌, refl, sym, ◌∙◌, ap, ℕ, ◌+◌, true, false, ◌||◌, not as negated, List, [], ◌∷◌, length, take, map}
+use Rattle.std.proofs.Common.{◌≡◌, refl, sym, ◌∙◌, ap, ℕ, ◌+◌, true, false, ◌||◌, not as negated, List, [], ◌∷◌, ◌++◌, length, take, map, slice_get}
 use Rattle.std.proofs.Common.{Option, Some, None, ok_or, Ok, arith}
 use Rattle.std.proofs.lemmas.List.{length-map}
 use Rattle.std.proofs.lemmas.Bool.{not-true}
 use Rattle.rg_base.specs.declared.ty.Ty.{Ty}
-use Rattle.rg_base.specs.declared.ty.Ty.TheVariants.{Bool, Ref}
+use Rattle.rg_base.specs.declared.ty.Ty.TheVariants.{Int, Bool, Ref}
 use Rattle.rg_base.specs.declared.words.Cap.TheVariants.{Mut}
 use Rattle.rg_base.specs.declared.fault.Code.TheVariants.{Unknown, Mismatch, Loop, Return}
-use Rattle.rg_tree.specs.Tree.{Name, Variable, Ty as Written, Path, Expr, Call, Right, Stmt, stmt, StmtKind, declare, assign, call, swap, branch}
-use Rattle.rg_tree.specs.Tree.{while, enter, print, collect, return, Else, no_else, otherwise, Block, empty as none, then as next, Class}
+use Rattle.rg_tree.specs.Tree.{Name, Variable, Ty as Written, Path, Expr, Call, Right, Stmt, stmt, StmtKind, declare, assign, assign_element, call}
+use Rattle.rg_tree.specs.Tree.{swap}
+use Rattle.rg_tree.specs.Tree.{branch, while, enter, print, collect, return, Else, no_else, otherwise, Block, empty as none, then as next, Class}
+use Rattle.rg_tree.proofs.TreesFrom.{slice_get-push}
 use Rattle.rg_rules.specs.Answers.{test, at_line}
-use Rattle.rg_rules.specs.Capabilities.{is_iso, iso_class, same_type, stays_at_depth, printable}
+use Rattle.rg_rules.specs.Capabilities.{is_iso, iso_class, same_type, stays_at_depth, may_write, printable}
 use Rattle.rg_rules.specs.Types.{good_type}
 use Rattle.rg_rules.specs.Environment.{Readiness, Env, Entry, entry_of, gone, visible, at_depth, with_variable, marked_entry, marked, is_ready}
 use Rattle.rg_rules.specs.Environment.{is_lent, ready, lent, deeper, closed, joined, covers}
-use Rattle.rg_rules.specs.Paths.{writable_field}
+use Rattle.rg_rules.specs.Paths.{Looked, walk_array, writable_field}
 use Rattle.rg_rules.specs.Expressions.{Judged, judge_expr}
 use Rattle.rg_rules.specs.Rights.{judge_call, judge_right}
-use Rattle.rg_rules.specs.Statements.{judge_declare, is_call, judge_assign, judge_call_alone, swapped_field, judge_swap, judge_test, judge_enter}
-use Rattle.rg_rules.specs.Statements.{left, judge_print, judge_return, last_of, judge_stmt, judge_kind, judge_else, judge_block}
+use Rattle.rg_rules.specs.Statements.{judge_declare, is_call, judge_assign, judge_assign_element, judge_call_alone, swapped_field}
+use Rattle.rg_rules.specs.Statements.{judge_swap, judge_test, judge_enter, judge_giving, left, judge_print, judge_return, last_of, judge_stmt}
+use Rattle.rg_rules.specs.Statements.{judge_kind, judge_else, judge_block}
 use Rattle.rg_rules.proofs.Answers.{bind-ok, then-ok, test-then, ok_or-ok, at_line-ok}
 use Rattle.rg_sound.proofs.Frames.Entry.{Absent, Absent-keeps, Absent-marked, Distinct-marked, stays-entry, Distinct, visible-absent}
 use Rattle.rg_sound.proofs.Frames.Entry.{settled_readiness, Keeps, Keeps-same, Keeps-trans, Keeps-append, Keeps-take, length-take-Keeps}
@@ -131,6 +134,48 @@ judge_assign-stays classes env out x [] r d h =
     rw p.out_is (Stays-trans env p.judged.env _ g (Stays-marked x ready p.judged.env now.0 now.1 same (Stays-distinct env p.judged.env d g)))
 judge_assign-stays classes env out x (f ∷ fs) r d h =
     let p = judge_assign-field classes env out x f fs r h in rw p.out_is (judge_right-stays classes env p.ty r p.judged d p.typed)
+
+-- `q[e] = r`: its parts
+pub record ElementAssigned (classes : List Class) (env out : Env) (x : Variable) (fs : List Name) (e : Expr) (r : Right) : Type 0 where
+  pub array : Looked
+  pub walked : walk_array classes env x fs ≡ Ok array
+  pub writes : may_write array.receiver ≡ true
+  pub not_call : is_call r ≡ false
+  pub index : Judged
+  pub index_typed : judge_expr classes env (Some Int) e ≡ Ok index
+  pub judged : Judged
+  pub typed : judge_right classes index.env array.ty r ≡ Ok judged
+  pub out_is : out ≡ judged.env
+
+pub judge_assign-element : (classes : List Class) (env out : Env) (x : Variable) (fs : List Name) (e : Expr) (r : Right) →
+    judge_assign_element classes env x fs e r ≡ Ok out → ElementAssigned classes env out x fs e r
+judge_assign-element classes env out x fs e r h =
+    let a = bind-ok (walk_array classes env x fs) _ out h in
+    let w = test-then (may_write a.0.receiver) _ _ out a.2 in
+    let c = test-then (negated (is_call r)) _ _ out w.1 in
+    let i = bind-ok (judge_expr classes env (Some Int) e) _ out c.1 in
+    let j = bind-ok (judge_right classes i.0.env a.0.ty r) _ out i.2 in
+    let o : j.0.env ≡ out = grind arith in
+    record {
+      array = a.0;
+      walked = a.1;
+      writes = w.0;
+      not_call = not-true (is_call r) c.0;
+      index = i.0;
+      index_typed = i.1;
+      judged = j.0;
+      typed = j.1;
+      out_is = sym o;
+    }
+
+pub judge_assign_element-stays : (classes : List Class) (env out : Env) (x : Variable) (fs : List Name) (e : Expr) (r : Right) →
+    Distinct env.entries →
+    judge_assign_element classes env x fs e r ≡ Ok out → Stays env out
+judge_assign_element-stays classes env out x fs e r d h =
+    let p = judge_assign-element classes env out x fs e r h in
+    let g = judge_expr-stays classes env (Some Int) e p.index d p.index_typed in
+    let k = judge_right-stays classes p.index.env p.array.ty r p.judged (Stays-distinct env p.index.env d g) p.typed in
+    rw p.out_is (Stays-trans env p.index.env p.judged.env g k)
 
 judge_call_alone-stays : (classes : List Class) (env out : Env) (c : Call) → Distinct env.entries → judge_call_alone classes env c ≡ Ok out →
     Stays env out
@@ -268,6 +313,37 @@ judge_enter-inner classes env out x (f ∷ fs) z d h =
     let new : Entry = record { name = Some z; ty = Ref Mut p.class; depth = env.depth + 1; readiness = ready; assignable = true } in
     rw p.out_is (record { depth = refl; keeps = Keeps-append env.entries (new ∷ []); distinct = Distinct-snoc env.entries new d p.absent })
 
+-- the variable of the bridge stands behind those in front of the `enter`
+pub record BridgeAt (env out : Env) (z : Name) : Type 0 where
+  pub entry : Entry
+  pub there : slice_get out.entries (length env.entries) ≡ Some entry
+  pub name : entry.name ≡ Some z
+  pub class : ℕ
+  pub type_is : entry.ty ≡ Ref Mut class
+
+bridge-behind : (env : Env) (es : List Entry) (z : Name) (c : ℕ) (out : Env) → length es ≡ length env.entries →
+    out.entries ≡ es ++ record { name = Some z; ty = Ref Mut c; depth = env.depth + 1; readiness = ready; assignable = true } ∷ [] →
+    BridgeAt env out z
+bridge-behind env es z c out long is =
+    let new : Entry = record { name = Some z; ty = Ref Mut c; depth = env.depth + 1; readiness = ready; assignable = true } in
+    record {
+      entry = new;
+      there = ap (λ q. slice_get q (length env.entries)) is ∙ ap (slice_get (es ++ new ∷ [])) (sym long) ∙ slice_get-push es new;
+      name = refl;
+      class = c;
+      type_is = refl;
+    }
+
+pub judge_enter-bridge : (classes : List Class) (env out : Env) (x : Variable) (fs : List Name) (z : Name) → judge_enter classes env x fs z ≡ Ok out →
+    BridgeAt env out z
+judge_enter-bridge classes env out x [] z h =
+    let p = judge_enter-variable classes env out x z h in
+    bridge-behind env (map (marked_entry x lent) env.entries) z p.class out (length-map env.entries (marked_entry x lent))
+    (ap (λ (q : Env). q.entries) p.out_is)
+judge_enter-bridge classes env out x (f ∷ fs) z h =
+    let p = judge_enter-field classes env out x f fs z h in
+    bridge-behind env env.entries z p.class out refl (ap (λ (q : Env). q.entries) p.out_is)
+
 pub length-lent : (x : Variable) (fs : List Name) (es : List Entry) → length (lent_entries x fs es) ≡ length es
 length-lent x [] es = length-map es (marked_entry x lent)
 length-lent x (f ∷ fs) es = refl
@@ -303,6 +379,8 @@ mutual
   judge_kind-goes classes last line env out (declare x t r) d h = judge_declare-goes classes env out x t r d (at_line-ok line _ out h)
   judge_kind-goes classes last line env out (assign p r) d h =
       Stays-goes env out d (judge_assign-stays classes env out p.base p.fields r d (at_line-ok line _ out h))
+  judge_kind-goes classes last line env out (assign_element q e r) d h =
+      Stays-goes env out d (judge_assign_element-stays classes env out q.base q.fields e r d (at_line-ok line _ out h))
   judge_kind-goes classes last line env out (call c) d h = Stays-goes env out d (judge_call_alone-stays classes env out c d (at_line-ok line _ out h))
   judge_kind-goes classes last line env out (swap y p) d h =
       let s = judge_swap-parts classes env out y p (at_line-ok line _ out h) in rw s.out_is (Stays-goes env env d (Stays-same env))
@@ -324,10 +402,11 @@ mutual
       let a = bind-ok (judge_block classes None f.0 body) _ out f.2 in
       let c = then-ok (at_line line (test (covers env a.0) Loop)) _ out a.2 in
       let o : env ≡ out = grind arith in rw (← o) (Stays-goes env env d (Stays-same env))
-  judge_kind-goes classes last line env out (enter p z body) d h =
+  judge_kind-goes classes last line env out (enter p z body giving) d h =
       let f = bind-ok (at_line line (judge_enter classes env p.base p.fields z)) _ out h in
       let a = bind-ok (judge_block classes None f.0 body) _ out f.2 in
-      let o : left p.base p.fields (closed env a.0) ≡ out = grind arith in
+      let w = then-ok (at_line line (judge_giving a.0 z giving)) _ out a.2 in
+      let o : left p.base p.fields (closed env a.0) ≡ out = let q = w.2 in grind arith in
       let n = at_line-ok line (judge_enter classes env p.base p.fields z) f.0 f.1 in
       let i = judge_enter-inner classes env f.0 p.base p.fields z d n in
       let g = judge_block-goes classes None f.0 a.0 body i.distinct a.1 in

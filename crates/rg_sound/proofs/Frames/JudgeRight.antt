@@ -1,21 +1,22 @@
 -- Behind an expression, a call or a right side there are the variables that were in front of it.
-use Rattle.std.proofs.Common.{◌≡◌, refl, subst, ◌==◌, Bool as Truth, true, false, ◌||◌, not as negated, if◌then◌else◌, List, [], ◌∷◌, length, Option}
+use Rattle.std.proofs.Common.{◌≡◌, refl, subst, ◌==◌, Bool as Truth, true, false, ◌||◌, not as negated, if◌then◌else◌, List, [], ◌∷◌, length}
+use Rattle.std.proofs.Common.{Option, None}
 use Rattle.std.proofs.Common.{Some, ok_or, Ok, arith}
 use Rattle.rg_base.specs.declared.ty.Ty.{Ty}
 use Rattle.rg_base.specs.declared.ty.Ty.TheVariants.{Int, Bool, Ref}
 use Rattle.rg_base.specs.declared.words.Cap.{Cap}
 use Rattle.rg_base.specs.declared.words.Cap.TheVariants.{Mut, Tmp, Imm, Iso}
 use Rattle.rg_base.specs.declared.fault.Code.TheVariants.{Unknown, Mismatch}
-use Rattle.rg_tree.specs.Tree.{Name, Variable, ref, Expr, number, boolean, nil, path, is_nil, neg, not, binary, Call, Right, value, new, new_tmp}
-use Rattle.rg_tree.specs.Tree.{new_iso, freeze, merge, read, more, result_of, Class}
+use Rattle.rg_tree.specs.Tree.{Name, Variable, ref, Expr, number, boolean, nil, path, is_nil, neg, not, binary, size, element, Call, Right}
+use Rattle.rg_tree.specs.Tree.{value, new, new_tmp, new_iso, freeze, merge, read, more, result_of, Class}
 use Rattle.rg_rules.specs.Capabilities.{below, is_iso, iso_class}
-use Rattle.rg_rules.specs.Types.{good_type, method_named, param_types}
+use Rattle.rg_rules.specs.Types.{good_type, names_array, method_named, param_types}
 use Rattle.rg_rules.specs.Environment.{Readiness, Env, Entry, entry_of, seen_type, available, used, gone, marked, is_ready, ready, lent}
-use Rattle.rg_rules.specs.Paths.{walk, follow}
+use Rattle.rg_rules.specs.Paths.{walk, walk_array, follow}
 use Rattle.rg_rules.specs.Expressions.{Judged, against, nil_type, judge_path, judge_is_nil, among, operand_type, result_type, judge_expr}
-use Rattle.rg_rules.specs.Rights.{Called, judge_args, judge_call, judge_new, judge_consumed, judge_right}
+use Rattle.rg_rules.specs.Rights.{Called, judge_args, judge_call, judge_size, judge_new, judge_consumed, judge_right}
 use Rattle.rg_rules.proofs.Answers.{bind-ok, then-ok, test-then, ok_or-ok}
-use Rattle.rg_rules.proofs.Expression.{against-ok, binary-ok}
+use Rattle.rg_rules.proofs.Expression.{against-ok, binary-ok, element-ok}
 use Rattle.rg_sound.proofs.Frames.Entry.{Distinct, settled_readiness, Stays, Stays-same, Stays-trans, Stays-distinct, Stays-marked}
 
 -- Expressions
@@ -71,6 +72,11 @@ judge_expr-stays classes env w (binary op a b) j d h =
     let g = judge_expr-stays classes env (operand_type (among op)) a p.l d p.operands.left in
     let k = judge_expr-stays classes p.l.env (operand_type (among op)) b p.r (Stays-distinct env p.l.env d g) p.operands.right in
     against-stays w (result_type (among op)) env p.r.env j (Stays-trans env p.l.env p.r.env g k) p.last
+judge_expr-stays classes env w (size q) j d h =
+    let p = then-ok (walk_array classes env q.base q.fields) _ j h in against-stays w Int env env j (Stays-same env) p.2
+judge_expr-stays classes env w (element q e) j d h =
+    let p = element-ok classes env w q e j h in
+    against-stays w p.ty env p.index.env j (judge_expr-stays classes env (Some Int) e p.index d p.judged) p.last
 
 pub judge_args-stays : (classes : List Class) (env out : Env) (ts : List Ty) (args : List Expr) → Distinct env.entries →
     judge_args classes env ts args ≡ Ok out → Stays env out
@@ -92,10 +98,22 @@ judge_call-stays classes env c j d h =
     let a = bind-ok (judge_args classes env (param_types classes m.0) c.args) _ j n.1 in
     let e : a.0 ≡ j.env = grind arith in rw (← e) (judge_args-stays classes env a.0 _ c.args d a.1)
 
-judge_new-stays : (classes : List Class) (env : Env) (w : Ty) (cap : Cap) (x : Name) (j : Judged) → judge_new classes env w cap x ≡ Ok j →
-    Stays env j.env
-judge_new-stays classes env w cap x j h =
-    let p = bind-ok (good_type classes (ref cap x)) _ j h in against-stays (Some w) p.0 env env j (Stays-same env) p.2
+judge_size-stays : (classes : List Class) (env out : Env) (x : Name) (many : Option Expr) → Distinct env.entries →
+    judge_size classes env x many ≡ Ok out → Stays env out
+judge_size-stays classes env out x None d h =
+    let p = test-then (negated (names_array classes x)) _ _ out h in
+    let e : env ≡ out = let q = p.1 in grind arith in rw (← e) (Stays-same env)
+judge_size-stays classes env out x (Some e) d h =
+    let p = test-then (names_array classes x) _ _ out h in
+    let j = bind-ok (judge_expr classes env (Some Int) e) _ out p.1 in
+    let o : j.0.env ≡ out = let q = j.2 in grind arith in rw (← o) (judge_expr-stays classes env (Some Int) e j.0 d j.1)
+
+judge_new-stays : (classes : List Class) (env : Env) (w : Ty) (cap : Cap) (x : Name) (many : Option Expr) (j : Judged) → Distinct env.entries →
+    judge_new classes env w cap x many ≡ Ok j → Stays env j.env
+judge_new-stays classes env w cap x many j d h =
+    let p = bind-ok (good_type classes (ref cap x)) _ j h in
+    let q = bind-ok (judge_size classes env x many) _ j p.2 in
+    against-stays (Some w) p.0 env q.0 j (judge_size-stays classes env q.0 x many d q.1) q.2
 
 judge_consumed-stays : (env : Env) (w : Ty) (cap : Cap) (y : Name) (j : Judged) → Distinct env.entries → judge_consumed env w cap y ≡ Ok j →
     Stays env j.env
@@ -111,9 +129,9 @@ pub judge_right-stays : (classes : List Class) (env : Env) (w : Ty) (r : Right) 
     judge_right classes env w r ≡ Ok j →
     Stays env j.env
 judge_right-stays classes env w (value e) j d h = judge_expr-stays classes env (Some w) e j d h
-judge_right-stays classes env w (new x) j d h = judge_new-stays classes env w Mut x j h
-judge_right-stays classes env w (new_tmp x) j d h = judge_new-stays classes env w Tmp x j h
-judge_right-stays classes env w (new_iso x m) j d h = judge_new-stays classes env w Iso x j h
+judge_right-stays classes env w (new x n) j d h = judge_new-stays classes env w Mut x n j d h
+judge_right-stays classes env w (new_tmp x n) j d h = judge_new-stays classes env w Tmp x n j d h
+judge_right-stays classes env w (new_iso x n m) j d h = judge_new-stays classes env w Iso x n j d h
 judge_right-stays classes env w (freeze y) j d h = judge_consumed-stays env w Imm y j d h
 judge_right-stays classes env w (merge y) j d h = judge_consumed-stays env w Mut y j d h
 judge_right-stays classes env w read j d h = against-stays (Some w) Int env env j (Stays-same env) h

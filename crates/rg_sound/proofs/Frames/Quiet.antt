@@ -1,10 +1,11 @@
 -- Steps that change nothing but what is to do and what was printed keep the invariant: `collect` and `print`.
-use Rattle.std.proofs.Common.{◌≡◌, refl, sym, ◌∙◌, ap, inl, inr, ℕ, true, false, List, [], ◌∷◌, ◌++◌, length, Option, None, Ok, slice_get, arith}
+use Rattle.std.proofs.Common.{◌≡◌, refl, sym, ◌∙◌, ap, subst, inl, inr, ℕ, true, false, List, [], ◌∷◌, ◌++◌, length, Option, None, Ok, slice_get}
+use Rattle.std.proofs.Common.{arith}
 use Rattle.std.proofs.Common.{option_map}
 use Rattle.rg_base.specs.declared.ty.Ty.{Ty}
 use Rattle.rg_base.specs.declared.ty.Ty.TheVariants.{Int, Bool as BoolTy, Ref}
 use Rattle.rg_base.specs.declared.object.Seen.{Seen}
-use Rattle.rg_tree.specs.Tree.{Tree, stmt, StmtKind, collect, print, Expr, Class}
+use Rattle.rg_tree.specs.Tree.{Tree, Stmt, stmt, StmtKind, collect, print, Expr, Class}
 use Rattle.rg_rules.specs.Acceptance.{Accepted}
 use Rattle.rg_rules.specs.Capabilities.{is_iso, printable}
 use Rattle.rg_rules.specs.Environment.{Env}
@@ -16,20 +17,38 @@ use Rattle.rg_rules.proofs.Expression.{judge_expr-env}
 use Rattle.rg_rules.proofs.Uses.{judge_expr-uses}
 use Rattle.rg_rules.proofs.Point.{spot-advance}
 use Rattle.rg_rules.proofs.Step.{stepped-went, computed-ok}
-use Rattle.rg_rules.specs.Items.{Item, Do}
+use Rattle.rg_rules.specs.Items.{Item, Do, EndAt, LeaveAt, LeaveGiving, Back}
 use Rattle.rg_rules.specs.State.{Frame, Window, State, top_locals, with_top}
 use Rattle.rg_rules.specs.Steps.{Went, step_kind}
 use Rattle.rg_sound.specs.Frames.{FramesFit, Running}
 use Rattle.rg_sound.specs.Fit.{Fit}
-use Rattle.rg_sound.specs.Writes.{fields_at, Written, Allowed}
+use Rattle.rg_sound.specs.Writes.{fields_at, Written, WritesActive, AllowedBy, Allowed}
 use Rattle.rg_sound.specs.Laws.{CollectKeeps, PrintKeeps}
 use Rattle.rg_sound.proofs.Frames.Body.{body-right}
 use Rattle.rg_sound.proofs.Frames.Advance.{running-first, running-advance, stands_on}
 use Rattle.rg_sound.proofs.Frames.Named.{Named-iso}
 
 -- a state with the same store writes nothing
+nothing-written : (s u : State) → u.store ≡ s.store → (a : ℕ) → Written s u a → ⊥
+nothing-written s u e a w = w.differ (ap (λ q. fields_at q a) e ∙ ap (option_map (λ (o : Seen). o.fields)) w.there)
+
+pub writes-same : (s u : State) → u.store ≡ s.store → WritesActive s u
+writes-same s u e a w = absurd (nothing-written s u e a w)
+
 pub allowed-same : (s u : State) → u.store ≡ s.store → Allowed s u
-allowed-same s u e a w = absurd (w.differ (ap (λ q. fields_at q a) e ∙ ap (option_map (λ (o : Seen). o.fields)) w.there))
+allowed-same s u e = by s.items
+  where
+    by : (items : List Item) → AllowedBy items s u
+    by [] = writes-same s u e
+    by (Do t ∷ rest) = writes-same s u e
+    by (EndAt k ∷ rest) = writes-same s u e
+    by (LeaveAt k ∷ rest) = writes-same s u e
+    by (LeaveGiving line k w ∷ rest) = λ a w. absurd (nothing-written s u e a w)
+    by (Back ∷ rest) = writes-same s u e
+
+-- a statement writes what is active
+pub active-allowed : (s u : State) (t : Stmt) (rest : List Item) → s.items ≡ Do t ∷ rest → WritesActive s u → Allowed s u
+active-allowed s u t rest is h = let P : List Item → Type 0 = λ q. AllowedBy q s u in subst P (sym is) h
 
 -- what is to do where a statement stands: its frame runs
 pub running-do : (t : Tree) (f : Frame) (fs : List Frame) (ws : List Window) (line : ℕ) (k : StmtKind) (later : List Item) →
@@ -54,6 +73,7 @@ collect_fits t a s line later e f = record {
   values = f.values;
   objects = f.objects;
   opened = f.opened;
+  bridges = f.bridges;
   forest = f.forest;
   numbers = f.numbers;
 }
@@ -81,6 +101,7 @@ quiet-fits t s u f e h = record {
   values = rw (e.store, e.frames, e.windows) f.values;
   objects = rw (e.store, e.windows) f.objects;
   opened = rw (e.store, e.frames, e.windows) f.opened;
+  bridges = rw (e.store, e.frames, e.windows) f.bridges;
   forest = rw (e.store, e.frames) f.forest;
   numbers = rw (e.store, e.windows, e.managers, e.made) f.numbers;
 }
@@ -151,7 +172,8 @@ print-keeps e line t s u rest a f is went =
     })
 
 -- what is allowed speaks of the two stores and of the windows alone
-pub allowed-over : (s s' u u' : State) → s'.store ≡ s.store → s'.windows ≡ s.windows → u'.store ≡ u.store → Allowed s u → Allowed s' u'
+pub allowed-over : (s s' u u' : State) → s'.store ≡ s.store → s'.windows ≡ s.windows → u'.store ≡ u.store → WritesActive s u →
+    WritesActive s' u'
 allowed-over s s' u u' a b c h x w =
     let v : Written s u x = record {
       object = w.object;

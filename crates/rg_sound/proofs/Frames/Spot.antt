@@ -4,11 +4,11 @@ use Rattle.std.proofs.Common.{arith}
 use Rattle.std.proofs.lemmas.List.{append-nil, length-append, append_assoc}
 use Rattle.std.specs.Result.{result_ok}
 use Rattle.rg_base.specs.declared.ty.Ty.{Ty}
-use Rattle.rg_tree.specs.Tree.{Name, Path, Expr, stmt, StmtKind, declare, assign, call, swap, branch, while, enter, print, collect, return, no_else}
+use Rattle.rg_tree.specs.Tree.{Name, Path, Expr, stmt, StmtKind, branch, while, enter, no_else}
 use Rattle.rg_tree.specs.Tree.{otherwise, Block, empty as none, then as next, Class}
 use Rattle.rg_rules.specs.Environment.{Env}
 use Rattle.rg_rules.specs.Statements.{judge_stmt, judge_kind, judge_block, judge_test, judge_enter, last_of}
-use Rattle.rg_rules.specs.Items.{Item, Do, items_of}
+use Rattle.rg_rules.specs.Items.{Item, Do, leave_of, items_of}
 use Rattle.rg_rules.specs.Points.{Side, first, second, Point, here, behind, inside, Spot, spot_in, Opened, opened, inner_block, block_end}
 use Rattle.rg_rules.specs.Points.{entered_path}
 use Rattle.rg_rules.proofs.Answers.{bind-ok}
@@ -30,6 +30,10 @@ pub leaves-items_of : (b : Block) (rest : List Item) → leaves (items_of b rest
 leaves-items_of none rest = refl
 leaves-items_of (next s b) rest = leaves-items_of b rest
 
+pub leaves-leave_of : (line k : ℕ) (giving : Option Name) (rest : List Item) → leaves (leave_of line k giving ∷ rest) ≡ k ∷ leaves rest
+leaves-leave_of line k None rest = refl
+leaves-leave_of line k (Some w) rest = refl
+
 -- A block of a statement
 
 -- in front of a block of a statement there are the variables that are in front of the statement, and maybe one more
@@ -46,9 +50,9 @@ tested-inner classes env e b i k d no_path h =
     let l : length (entered_path k) ≡ 0 = ap length no_path in
     record { depth = omega (arith, s.depth, l); count = omega (arith, s.count); distinct = Stays-distinct env i.env d s }
 
-entered-inner : (classes : List Class) (env : Env) (p : Path) (z : Name) (b : Block) (i : Opened) → Distinct env.entries →
-    opened (judge_enter classes env p.base p.fields z) b ≡ Some i → InnerSpot env i.env (enter p z b)
-entered-inner classes env p z b i d h =
+entered-inner : (classes : List Class) (env : Env) (p : Path) (z : Name) (b : Block) (giving : Option Name) (i : Opened) → Distinct env.entries →
+    opened (judge_enter classes env p.base p.fields z) b ≡ Some i → InnerSpot env i.env (enter p z b giving)
+entered-inner classes env p z b giving i d h =
     let o = opened-some (judge_enter classes env p.base p.fields z) b i h in
     let n = judge_enter-inner classes env i.env p.base p.fields z d o.0 in
     let l = length-Keeps (lent_entries p.base p.fields env.entries) i.env.entries n.keeps in
@@ -63,13 +67,14 @@ inner-spot classes env (branch e b no_else) second i d h = grind arith
 inner-spot classes env (branch e b (otherwise c)) second i d h = tested-inner classes env e c i (branch e b (otherwise c)) d refl h
 inner-spot classes env (while e b) first i d h = tested-inner classes env e b i (while e b) d refl h
 inner-spot classes env (while e b) second i d h = grind arith
-inner-spot classes env (enter p z b) first i d h = entered-inner classes env p z b i d h
-inner-spot classes env (enter p z b) second i d h = grind arith
+inner-spot classes env (enter p z b giving) first i d h = entered-inner classes env p z b giving i d h
+inner-spot classes env (enter p z b giving) second i d h = grind arith
 inner-spot classes env _ side i d h = grind arith
 
 block_end-leaves : (n m line : ℕ) (k : StmtKind) (more : List Item) → n ≤ m → AllWithin m (leaves more) →
     AllWithin m (leaves (block_end n line k ++ more))
-block_end-leaves n m line (enter p z b) more l h = (l, h)
+block_end-leaves n m line (enter p z b giving) more l h =
+    let P : List ℕ → Type 0 = λ q. AllWithin m q in subst P (sym (leaves-leave_of line n giving more)) (l, h)
 block_end-leaves n m line _ more l h = h
 
 -- At each spot

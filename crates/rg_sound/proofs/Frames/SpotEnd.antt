@@ -1,21 +1,32 @@
 -- The spot behind the end of a block.
-use Rattle.std.proofs.Common.{◌≡◌, refl, sym, ◌∙◌, ap, subst, ◌⊎◌, inl, inr, ℕ, ◌+◌, true, false, List, [], ◌∷◌, ◌++◌, length, Option, Some, None}
-use Rattle.std.proofs.Common.{Ok, arith}
+use Rattle.std.proofs.Common.{◌≡◌, refl, sym, ◌∙◌, ap, subst, ◌⊎◌, inl, inr, ℕ, ◌+◌, ◌==◌, true, false, List, [], ◌∷◌, ◌++◌, length, Option, Some}
+use Rattle.std.proofs.Common.{None}
+use Rattle.std.proofs.Common.{ok_or, slice_get, Ok, arith}
+use Rattle.std.proofs.lemmas.Bool.{and_parts}
+use Rattle.std.proofs.lemmas.Option.{same_Some}
 use Rattle.std.proofs.lemmas.List.{append-nil}
 use Rattle.rg_base.specs.declared.ty.Ty.{Ty}
+use Rattle.rg_base.specs.declared.ty.Ty.TheVariants.{Int, Bool, Ref}
+use Rattle.rg_base.specs.declared.words.Cap.{Cap}
+use Rattle.rg_base.specs.declared.words.Cap.TheVariants.{Mut, Tmp, Paused, Imm, Iso}
+use Rattle.rg_base.specs.declared.fault.Code.TheVariants.{Unknown, Mismatch}
 use Rattle.rg_tree.specs.Tree.{Name, Variable, Path, Expr, Stmt, stmt, StmtKind, branch, while, enter}
 use Rattle.rg_tree.specs.Tree.{Else, no_else, otherwise, Block, empty as none, then as next, Class}
-use Rattle.rg_rules.specs.Answers.{at_line}
-use Rattle.rg_rules.specs.Environment.{Env, Entry, Readiness, ready, gone, is_ready, is_lent, entry_of, lent, closed, joined}
-use Rattle.rg_rules.specs.Statements.{judge_stmt, judge_kind, judge_else, judge_block, judge_test, judge_enter, left, last_of}
-use Rattle.rg_rules.specs.Items.{Item, Do, EndAt, LeaveAt, items_of}
+use Rattle.rg_rules.specs.Answers.{Answer, Lined, at_line}
+use Rattle.rg_rules.specs.Capabilities.{below, below_cap, same_type}
+use Rattle.rg_rules.specs.Environment.{Env, Entry, Readiness, ready, gone, is_ready, is_lent, entry_of, seen_type, lent, closed, joined}
+use Rattle.rg_rules.specs.Statements.{judge_stmt, judge_kind, judge_else, judge_block, judge_test, judge_enter, judge_giving}
+use Rattle.rg_rules.specs.Statements.{left, last_of}
+use Rattle.rg_rules.specs.Items.{Item, Do, EndAt, LeaveAt, LeaveGiving, Back, leave_of, items_of}
 use Rattle.rg_rules.specs.Points.{Side, first, second, Point, here, behind, inside, Spot, spot_in, Opened, inner_block, block_end, entered_path}
-use Rattle.rg_rules.proofs.Answers.{bind-ok, at_line-ok}
+use Rattle.rg_rules.proofs.Answers.{bind-ok, then-ok, test-ok, ok_or-ok, at_line-ok}
 use Rattle.rg_rules.proofs.Point.{and_then-some, inner_block-judged, opened-some, from_ok, to_ok}
-use Rattle.rg_sound.proofs.Frames.Entry.{settled_readiness, Keeps-find, Distinct, Keeps, Keeps-same, Keeps-trans, Keeps-flip, Keeps-both_marked}
+use Rattle.rg_sound.proofs.Frames.Entry.{settled_readiness, distinct-find, Keeps-find, Keeps-at, Distinct, Keeps, Keeps-same, Keeps-trans}
+use Rattle.rg_sound.proofs.Frames.Entry.{Keeps-flip, Keeps-both_marked}
 use Rattle.rg_sound.proofs.Frames.Entry.{Stays}
 use Rattle.rg_sound.proofs.Frames.Entry.{Goes, Stays-same, Stays-trans, Stays-distinct, Stays-closed, Stays-joined}
-use Rattle.rg_sound.proofs.Frames.Judge.{judge_test-stays, lent_entries, Inner, judge_enter-inner, judge_enter-variable, left-stays}
+use Rattle.rg_sound.proofs.Frames.Judge.{judge_test-stays, lent_entries, Inner, judge_enter-inner, judge_enter-variable, judge_enter-bridge}
+use Rattle.rg_sound.proofs.Frames.Judge.{left-stays}
 use Rattle.rg_sound.proofs.Frames.Judge.{judge_stmt-goes}
 use Rattle.rg_sound.proofs.Frames.Judge.{judge_else-goes, judge_block-goes}
 use Rattle.rg_sound.proofs.Frames.Body.{Begins, EndsWell, block_end-begins, first-left, rest-ends, no_point}
@@ -49,10 +60,21 @@ pub record LeavesAt (k : ℕ) (env : Env) (enters : List Path) (s : Spot) : Type
   pub enters_are : s.enters ≡ enters ++ path ∷ []
   pub free : IsFreed path.base path.fields env
 
+-- what is given at the end of the block of an `enter` is seen as the variable of the bridge is declared
+pub record GivesAt (k : ℕ) (w : Name) (env : Env) : Type 0 where
+  pub entry : Entry
+  pub there : entry_of env (Some w) ≡ Some entry
+  pub bridge : Entry
+  pub bridge_at : slice_get env.entries k ≡ Some bridge
+  pub class : ℕ
+  pub bridge_is : bridge.ty ≡ Ref Mut class
+  pub type_is : seen_type env entry ≡ Ref Mut class
+
 -- how the end of a block leads behind it
 abbrev pub Closes : Item → Env → (enters : List Path) → Spot → Type 0
 Closes (EndAt k) env enters s = EndsAt k env enters s
 Closes (LeaveAt k) env enters s = LeavesAt k env enters s
+Closes (LeaveGiving line k w) env enters s = LeavesAt k env enters s × GivesAt k w s.env
 Closes _ env enters s = ⊥
 
 -- the end of an inner block, with the spot behind it
@@ -204,33 +226,87 @@ behind-while classes result env mid front out line e c b after round s i mine f 
       left = record { first = Do (stmt line (while e c)); more = items_of b after; is = refl };
     })
 
-behind-enter : (classes : List Class) (result : Option Ty) (env mid front out : Env) (line : ℕ) (p : Path) (z : Name) (c : Block) (b : Block)
+-- only the same type is below a `mut` one
+below-mut : (c : ℕ) (t : Ty) → below t (Ref Mut c) ≡ true → t ≡ Ref Mut c
+below-mut c Int h = grind arith
+below-mut c Bool h = grind arith
+below-mut c (Ref cap d) h = by cap (and_parts (d == c) (below_cap cap Mut) h)
+  where
+    by : (cap : Cap) → ((d == c) ≡ true) × (below_cap cap Mut ≡ true) → Ref cap d ≡ Ref Mut c
+    by Mut e = let q : d ≡ c = let x = e.0 in grind arith in ap (Ref Mut) q
+    by Tmp e = let x = e.1 in grind arith
+    by Paused e = let x = e.1 in grind arith
+    by Imm e = let x = e.1 in grind arith
+    by Iso e = let x = e.1 in grind arith
+
+-- what is given at the end of a block
+gives-at : (classes : List Class) (env front out : Env) (x : Variable) (fs : List Name) (z w : Name) → Distinct env.entries →
+    judge_enter classes env x fs z ≡ Ok front → Goes front out → judge_giving out z (Some w) ≡ Ok tt → GivesAt (length env.entries) w out
+gives-at classes env front out x fs z w d n g h =
+    let e = bind-ok (ok_or (entry_of out (Some w)) Unknown) _ tt h in
+    let b = bind-ok (ok_or (entry_of out (Some z)) Unknown) _ tt e.2 in
+    let s = test-ok (same_type (seen_type out e.0) b.0.ty) Mismatch tt b.2 in
+    let i = judge_enter-bridge classes env front x fs z n in
+    let at = Keeps-at front.entries out.entries (length env.entries) i.entry g.keeps i.there in
+    let name : at.0.name ≡ Some z = ap (λ (q : Entry). q.name) at.2 ∙ i.name in
+    let found = distinct-find (Some z) out.entries (length env.entries) at.0 g.distinct at.1 name in
+    let one : b.0 ≡ at.0 = same_Some b.0 at.0 (sym (ok_or-ok (entry_of out (Some z)) Unknown b.0 b.1) ∙ found) in
+    let bridge : at.0.ty ≡ Ref Mut i.class = ap (λ (q : Entry). q.ty) at.2 ∙ i.type_is in
+    let P : Ty → Type 0 = λ q. below (seen_type out e.0) q ≡ true in
+    let both = and_parts (below (seen_type out e.0) b.0.ty) (below b.0.ty (seen_type out e.0)) s in
+    record {
+      entry = e.0;
+      there = ok_or-ok (entry_of out (Some w)) Unknown e.0 e.1;
+      bridge = at.0;
+      bridge_at = at.1;
+      class = i.class;
+      bridge_is = bridge;
+      type_is = below-mut i.class (seen_type out e.0) (subst P (ap (λ (q : Entry). q.ty) one ∙ bridge) both.0);
+    }
+
+behind-enter : (classes : List Class) (result : Option Ty) (env mid front out : Env) (line : ℕ) (p : Path) (z : Name) (c : Block)
+    (giving : Option Name) (b : Block)
     (after : List Item) (round : List Path) (s : Spot) (i : Item) (mine : List Item) → Distinct env.entries →
-    EndsWell (next (stmt line (enter p z c)) b) after →
-    judge_kind classes (last_of result b) line env (enter p z c) ≡ Ok mid → judge_enter classes env p.base p.fields z ≡ Ok front → Goes front out →
+    EndsWell (next (stmt line (enter p z c giving)) b) after →
+    judge_kind classes (last_of result b) line env (enter p z c giving) ≡ Ok mid → judge_enter classes env p.base p.fields z ≡ Ok front →
+    Goes front out →
     judge_block classes None front c ≡ Ok out →
-    OuterHere out (length env.entries) line (enter p z c) (items_of b after) s round i mine →
-    Behind classes result env mid line (enter p z c) b after round s i mine
-behind-enter classes result env mid front out line p z c b after round s i mine d w h n g j o =
+    OuterHere out (length env.entries) line (enter p z c giving) (items_of b after) s round i mine →
+    Behind classes result env mid line (enter p z c giving) b after round s i mine
+behind-enter classes result env mid front out line p z c giving b after round s i mine d w h n g j o =
     let f = bind-ok (at_line line (judge_enter classes env p.base p.fields z)) _ mid h in
     let a = bind-ok (judge_block classes None f.0 c) _ mid f.2 in
-    let is_mid : left p.base p.fields (closed env a.0) ≡ mid = grind arith in
+    let v = then-ok (at_line line (judge_giving a.0 z giving)) _ mid a.2 in
+    let is_mid : left p.base p.fields (closed env a.0) ≡ mid = let q = v.2 in grind arith in
     let m = at_line-ok line (judge_enter classes env p.base p.fields z) f.0 f.1 in
     let inner = judge_enter-inner classes env f.0 p.base p.fields z d m in
     let k = judge_block-goes classes None f.0 a.0 c inner.distinct a.1 in
     let t : Stays env mid = rw (← is_mid) (left-stays classes env f.0 a.0 p.base p.fields z d m k.keeps) in
-    let is : (LeaveAt (length env.entries) ≡ i) × (items_of b after ≡ mine) = let q = o.items_are in (grind arith, grind arith) in
+    let same_front : f.0 ≡ front = let q : ◌≡◌ {A = Answer Env} (Ok f.0) (Ok front) = sym m ∙ n in grind arith in
+    let J : Env → Type 0 = λ q. judge_block classes None q c ≡ Ok a.0 in
+    let same_out : a.0 ≡ out = let q : ◌≡◌ {A = Lined Env} (Ok a.0) (Ok out) = sym (subst J same_front a.1) ∙ j in grind arith in
+    let K : Env → Type 0 = λ q. judge_giving q z giving ≡ Ok tt in
+    let given = subst K same_out (at_line-ok line (judge_giving a.0 z giving) tt v.1) in
+    let is : (leave_of line (length env.entries) giving ≡ i) × (items_of b after ≡ mine) = let q = o.items_are in (grind arith, grind arith) in
     let there : spot_in classes result mid b after round here ≡ Some (record { env = mid; items = mine; enters = round }) = rw (← is.1) refl in
     rw (← is.0) (record {
       point = behind here;
       to = mid;
-      spot_is = to_ok (judge_kind classes (last_of result b) line env (enter p z c)) mid (λ q. spot_in classes result q b after round here)
+      spot_is = to_ok (judge_kind classes (last_of result b) line env (enter p z c giving)) mid (λ q. spot_in classes result q b after round here)
           _ h there;
-      closes = leave-closes classes env front out p mid round s (length env.entries) refl
-          (judge_enter-inner classes env front p.base p.fields z d n) g t o.env_is o.enters_are (free-before p.base p.fields n);
-      left = let P : List Item → Type 0 = λ q. Begins q in subst P is.1 (first-left (enter p z c) b after refl w);
+      closes = closes giving given
+          (leave-closes classes env front out p mid round s (length env.entries) refl
+          (judge_enter-inner classes env front p.base p.fields z d n) g t o.env_is o.enters_are (free-before p.base p.fields n)) o.env_is g;
+      left = let P : List Item → Type 0 = λ q. Begins q in subst P is.1 (first-left (enter p z c giving) b after refl w);
     })
   where
+    closes : (giving : Option Name) → judge_giving out z giving ≡ Ok tt → LeavesAt (length env.entries) mid round s → s.env ≡ out → Goes front out →
+        Closes (leave_of line (length env.entries) giving) mid round s
+    closes None q l e g = l
+    closes (Some w) q l e g =
+        let P : Env → Type 0 = λ y. GivesAt (length env.entries) w y in
+        (l, subst P (sym e) (gives-at classes env front out p.base p.fields z w d n g q))
+
     ready_is : (q : Readiness) → is_ready q ≡ true → is_lent q ≡ false
     ready_is ready e = refl
     ready_is gone e = refl
@@ -267,13 +343,13 @@ outer-behind classes result env mid line (while t c) b after round s i mine firs
     behind-while classes result env mid q.env out line t c b after round s i mine f
     (judge_block-goes classes None q.env out q.block (Stays-distinct env q.env d f) j) o
 outer-behind classes result env mid line (while t c) b after round s i mine second q out d w h e j o = grind arith
-outer-behind classes result env mid line (enter p z c) b after round s i mine first q out d w h e j o =
+outer-behind classes result env mid line (enter p z c giving) b after round s i mine first q out d w h e j o =
     let n = opened-some (judge_enter classes env p.base p.fields z) c q e in
     let f = judge_enter-inner classes env q.env p.base p.fields z d n.0 in
     let block : judge_block classes None q.env c ≡ Ok out = rw (← n.1) j in
-    behind-enter classes result env mid q.env out line p z c b after round s i mine d w h n.0
+    behind-enter classes result env mid q.env out line p z c giving b after round s i mine d w h n.0
     (judge_block-goes classes None q.env out q.block f.distinct j) block o
-outer-behind classes result env mid line (enter p z c) b after round s i mine second q out d w h e j o = grind arith
+outer-behind classes result env mid line (enter p z c giving) b after round s i mine second q out d w h e j o = grind arith
 outer-behind classes result env mid line _ b after round s i mine side q out d w h e j o = grind arith
 
 do-not_end : {B : Type 0} (t : Stmt) (rest : List Item) (i : Item) (mine : List Item) → Do t ∷ rest ≡ i ∷ mine → IsEnd i → B

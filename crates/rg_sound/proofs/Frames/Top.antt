@@ -29,6 +29,7 @@ use Rattle.rg_sound.proofs.Frames.Stands.{beneath-all, own-all, count-all, lends
 
 -- what is known of a running frame
 pub record Top (t : Tree) (f : Frame) (fs : List Frame) (ws : List Window) (items : List Item) (r : Running t f fs ws items) : Type 0 where
+  pub accepted : Accepted t
   pub right : Right t.classes r.body
   pub front : Front r.body
   pub spot : SpotRight 0 [] r.spot
@@ -66,6 +67,7 @@ running-top t a store f fs ws items r owned =
     let R : List ℕ → Type 0 = λ q. AllWithin (length f.locals) q in
     let T : ℕ → Type 0 = λ n. AllWithin n (leaves r.spot.items) in subst R (sym r.stands.bases) (subst T entries spot.within) in
     record {
+      accepted = a;
       right = right;
       front = front;
       spot = spot;

@@ -21,6 +21,7 @@ use Rattle.rg_sound.specs.Windows.{windows_of}
 use Rattle.rg_sound.specs.Values.{MeetsBy, Meets, FrameMeets, ValuesFit}
 use Rattle.rg_sound.specs.Objects.{ObjectsFit}
 use Rattle.rg_sound.specs.OpenRegions.{OpenFit}
+use Rattle.rg_sound.specs.Bridges.{BridgesFit}
 use Rattle.rg_sound.specs.Numbers.{NumbersFit}
 use Rattle.rg_sound.specs.Frames.{FramesFit}
 use Rattle.rg_sound.specs.Fit.{Fit}
@@ -28,7 +29,7 @@ use Rattle.rg_sound.proofs.Basics.{none-some}
 use Rattle.rg_sound.proofs.Owners.Owner.{get-snoc-other, get-set, get-set-other, led_by, leads-top, leads-lower, leads-past}
 use Rattle.rg_sound.proofs.Owners.Owner.{OwnersCome, forest-come, AllOwners, AllOwners-map, open-come}
 
--- five of the six parts: all but that on frames and items
+-- five of the seven parts: all but that on frames and items, and that on bridges
 pub record Data (classes : List Class) (store : List Seen) (frames : List Frame) (windows : List Window) (regions made : ℕ) : Type 0 where
   pub values : ValuesFit store windows frames
   pub objects : ObjectsFit classes store windows
@@ -40,8 +41,16 @@ pub fit-data : (t : Tree) (s : State) → Fit t s → Data t.classes s.store s.f
 fit-data t s f = record { values = f.values; objects = f.objects; opened = f.opened; forest = f.forest; numbers = f.numbers }
 
 pub data-fit : (t : Tree) (s : State) → FramesFit t s.frames s.windows s.items →
-    Data t.classes s.store s.frames s.windows (length s.managers) s.windows_made → Fit t s
-data-fit t s h d = record { frames = h; values = d.values; objects = d.objects; opened = d.opened; forest = d.forest; numbers = d.numbers }
+    Data t.classes s.store s.frames s.windows (length s.managers) s.windows_made → BridgesFit t.classes s.store s.frames s.windows → Fit t s
+data-fit t s h d b = record {
+  frames = h;
+  values = d.values;
+  objects = d.objects;
+  opened = d.opened;
+  bridges = b;
+  forest = d.forest;
+  numbers = d.numbers;
+}
 
 -- a reference lies in a store of a length
 abbrev pub Within : (length : ℕ) → Val → Type 0
@@ -249,3 +258,39 @@ pop-frame classes store f fs ws regions made d k =
 
     come : OwnersCome classes store store (f ∷ fs) fs Nothing
     come = record { from = λ q r h. inl (from q r h); one = λ p q r x y. absurd x; unowned = λ p q r x h. x; above = λ p r x. absurd x }
+
+-- a variable gets another value that leads into the same region
+pub put-same : (classes : List Class) (store : List Seen) (f : Frame) (fs : List Frame) (ws : List Window) (regions made : ℕ) (new : List Local)
+    (k : ℕ) (l m : Local) → Data classes store (f ∷ fs) ws regions made → Puts f.locals new k l → slice_get f.locals k ≡ Some m →
+    led_by store l ≡ led_by store m → Meets store (windows_of (length fs) k ws) l.ty l.value →
+    Data classes store (record f { locals = new } ∷ fs) ws regions made
+put-same classes store f fs ws regions made new k l m d p there led meets =
+    frames-change classes store (f ∷ fs) (record f { locals = new } ∷ fs) ws regions made Nothing d come (values, d.values.1) (all ws)
+  where
+    was : (n i : ℕ) → n ≡ length fs → i ≡ k → leads_into classes store (f ∷ fs) (Var n i) ≡ led_by store m
+    was n i here at = ap (λ q. leads_into classes store (f ∷ fs) (Var q i)) here ∙ leads-top classes store f fs i
+        ∙ ap (λ (q : Option Local). option_and_then (region_at store) (option_and_then owned_by_local q)) (ap (slice_get f.locals) at ∙ there)
+
+    same : (q : Place) → leads_into classes store (record f { locals = new } ∷ fs) q ≡ leads_into classes store (f ∷ fs) q
+    same (Var n i) = elim (leads-put classes store f fs new k l p n i) [
+      | inl at ↦ at.2 ∙ led ∙ sym (was n i at.0 at.1)
+      | inr e ↦ e
+    ]
+    same (Field a j) = refl
+
+    come : OwnersCome classes store store (f ∷ fs) (record f { locals = new } ∷ fs) Nothing
+    come = record { from = λ q r h. inl (sym (same q) ∙ h); one = λ p q r x y. absurd x; unowned = λ p q r x h. x; above = λ p r x. absurd x }
+
+    all : (us : List Window) → AllOwners us (λ p. leads_into classes store (record f { locals = new } ∷ fs) p
+        ≡ leads_into classes store (f ∷ fs) p)
+    all [] = tt
+    all (u ∷ us) = (λ p e. same p, all us)
+
+    values : FrameMeets store ws (length fs) new
+    values i g e = elim (cases_eq i k) [
+      | inl at ↦
+          let one : l ≡ g = same_Some l g (sym p.at ∙ ap (slice_get new) (sym at) ∙ e) in
+          let P : Local → Type 0 = λ q. Meets store (windows_of (length fs) k ws) q.ty q.value in
+          let Q : ℕ → Type 0 = λ j. Meets store (windows_of (length fs) j ws) g.ty g.value in subst Q (sym at) (subst P one meets)
+      | inr away ↦ d.values.0 i g (sym (p.others i away) ∙ e)
+    ]

@@ -19,7 +19,7 @@ use Rattle.rg_rules.specs.Environment.{Env, Entry, lent, seen_type, at_depth, ma
 use Rattle.rg_rules.specs.Types.{type_of, fields_of, field_place}
 use Rattle.rg_rules.specs.Paths.{all_but_last, last_field}
 use Rattle.rg_rules.specs.Statements.{judge_enter}
-use Rattle.rg_rules.specs.Items.{Item, Do}
+use Rattle.rg_rules.specs.Items.{Item, Do, leave_of}
 use Rattle.rg_rules.specs.State.{Local, Window, State, value_in, place_in, locals_of, frame_number, top_locals}
 use Rattle.rg_rules.specs.Evaluation.{object_at, field_value, follow_fields}
 use Rattle.rg_rules.specs.Regions.{region_of, region_at, address, owned}
@@ -40,6 +40,9 @@ use Rattle.rg_sound.proofs.Values.Right.{ready-not_lent}
 use Rattle.rg_sound.proofs.Values.Assign.{Doing, doing, doing-judges}
 use Rattle.rg_sound.proofs.Owners.Receiver.{IsTop, receiver-at, receiver-value, field-leads, top-not_owner_field}
 use Rattle.rg_sound.proofs.Owners.Entrance.{Entrance, Fronts, enter-kept}
+use Rattle.rg_sound.proofs.Owners.Bridge.{local_type-top}
+use Rattle.rg_tree.specs.Tree.{Field as FieldOfClass}
+use Rattle.std.proofs.Common.{option_map}
 
 pub iso-type : (t : Ty) (c : ℕ) → iso_class t ≡ Some c → t ≡ Ref Iso c
 iso-type Int c h = grind arith
@@ -84,22 +87,23 @@ owned-object store F c v o to m h =
     }
 
 -- `enter x as z`
-enter-variable : (t : Tree) (s : State) (line : ℕ) (x : Variable) (z : Name) (body : Block) (rest : List Item)
-    (d : Doing t s line (enter (record { base = x; fields = [] }) z body) rest)
+enter-variable : (t : Tree) (s : State) (line : ℕ) (x : Variable) (z : Name) (body : Block) (giving : Option Name) (rest : List Item)
+    (d : Doing t s line (enter (record { base = x; fields = [] }) z body giving) rest)
     (front : Env) → judge_enter t.classes d.r.spot.env x [] z ≡ Ok front → (u : State) →
-    step_enter t.classes (record s { items = rest }) x [] z body ≡ Ok u → StaysFit t s u
-enter-variable t s line x z body rest d front judged u h =
+    step_enter t.classes (record s { items = rest }) x [] z body (λ kept. leave_of line kept giving) ≡ Ok u → StaysFit t s u
+enter-variable t s line x z body giving rest d front judged u h =
     let s0 : State = record s { items = rest } in
     let p = judge_enter-variable t.classes d.r.spot.env front x z judged in
     let locals : locals_of s0 ≡ d.f.locals = ap top_locals d.frames in
     let number : frame_number s0.frames ≡ length d.fs = ap frame_number d.frames in
     let o = bind-ok (object_at s.store (value_in (locals_of s0) x)) _ u h in
-    let is : with_window s0 (Var (frame_number s0.frames) (place_in (locals_of s0) x)) z body (value_in (locals_of s0) x) o.0.class
+    let is : with_window s0 (Var (frame_number s0.frames) (place_in (locals_of s0) x)) z body (λ kept. leave_of line kept giving) (value_in
+    (locals_of s0) x) o.0.class
     (region_of o.0.label) ≡ u = grind arith in
     let there : object_at s.store (value_in d.f.locals x) ≡ Ok o.0 = ap (λ q. object_at s.store (value_in q x)) (sym locals) ∙ o.1 in
     let ty = iso-type p.entry.ty p.class p.iso in
     let a = first-at d.r.spot.env.entries d.f.locals x p.entry d.r.stands.named p.there in
-    let sees = top-sees t s.store d.f d.fs s.windows (Do (stmt line (enter (record { base = x; fields = [] }) z body)) ∷ rest)
+    let sees = top-sees t s.store d.f d.fs s.windows (Do (stmt line (enter (record { base = x; fields = [] }) z body giving)) ∷ rest)
     d.r d.top d.fits.values in
     let seen = seen-meets s.store s.windows (length d.fs) d.r.spot.env d.f.locals sees x p.entry p.there in
     let P : Ty → Type 0 = λ q. Meets s.store s.windows q (value_in d.f.locals x) in
@@ -122,7 +126,7 @@ enter-variable t s line x z body rest d front judged u h =
       label_is = w.label_is;
       class_is = w.class_is;
       leads = leads;
-      free = top-not_owner t d.f d.fs s.windows (Do (stmt line (enter (record { base = x; fields = [] }) z body)) ∷ rest) d.r d.top
+      free = top-not_owner t d.f d.fs s.windows (Do (stmt line (enter (record { base = x; fields = [] }) z body giving)) ∷ rest) d.r d.top
           (place_in d.f.locals x) p.entry a.entry_at
           (ready-not_lent p.entry.readiness p.ready);
       near = λ y v us e b c. inr (sym b, omega (arith, within, c));
@@ -135,11 +139,15 @@ enter-variable t s line x z body rest d front judged u h =
       class = p.class;
       front_is = p.out_is;
     } in
-    let k = enter-kept t s line (record { base = x; fields = [] }) z body rest d front judged b place (value_in d.f.locals x) o.0 w.region e there
-    (refl, (p.entry, p.there)) in
-    let Q : List Local → Type 0 = λ q. StaysFit t s (with_window s0 (Var (length d.fs) (place_in q x)) z body (value_in q x) o.0.class
+    let k = enter-kept t s line (record { base = x; fields = [] }) z body giving rest d front judged b place (value_in d.f.locals x) o.0 w.region e
+    there
+    (refl, (p.entry, p.there))
+    (local_type-top d.f d.fs (place_in d.f.locals x) ∙ ap (option_map (λ (q : Local). q.ty)) a.local_at ∙ ap Some (a.pair.ty ∙ ty)) in
+    let Q : List Local → Type 0 = λ q. StaysFit t s (with_window s0 (Var (length d.fs) (place_in q x)) z body (λ kept. leave_of line kept giving)
+    (value_in q x) o.0.class
     (region_of o.0.label)) in
-    let R : ℕ → Type 0 = λ q. StaysFit t s (with_window s0 (Var q (place_in (locals_of s0) x)) z body (value_in (locals_of s0) x) o.0.class
+    let R : ℕ → Type 0 = λ q. StaysFit t s (with_window s0 (Var q (place_in (locals_of s0) x)) z body (λ kept. leave_of line kept giving) (value_in
+    (locals_of s0) x) o.0.class
     (region_of o.0.label)) in
     let T : State → Type 0 = λ q. StaysFit t s q in subst T is (subst R (sym number) (subst Q (sym locals) k))
 
@@ -148,20 +156,22 @@ field_at-is : (classes : List Class) (at : Val) (o : Seen) (x : Name) (a j : ℕ
 field_at-is classes at o x a j e p = rw (e, p) refl
 
 -- `enter q.f as z`
-enter-field : (t : Tree) (s : State) (line : ℕ) (x : Variable) (f : Name) (fs : List Name) (z : Name) (body : Block) (rest : List Item)
-    (d : Doing t s line (enter (record { base = x; fields = f ∷ fs }) z body) rest) (front : Env) →
+enter-field : (t : Tree) (s : State) (line : ℕ) (x : Variable) (f : Name) (fs : List Name) (z : Name) (body : Block) (giving : Option Name) (rest :
+    List Item)
+    (d : Doing t s line (enter (record { base = x; fields = f ∷ fs }) z body giving) rest) (front : Env) →
     judge_enter t.classes d.r.spot.env x (f ∷ fs) z ≡ Ok front → (u : State) →
-    step_enter t.classes (record s { items = rest }) x (f ∷ fs) z body ≡ Ok u → StaysFit t s u
-enter-field t s line x f fs z body rest d front judged u h =
+    step_enter t.classes (record s { items = rest }) x (f ∷ fs) z body (λ kept. leave_of line kept giving) ≡ Ok u → StaysFit t s u
+enter-field t s line x f fs z body giving rest d front judged u h =
     let s0 : State = record s { items = rest } in
-    let k : StmtKind = enter (record { base = x; fields = f ∷ fs }) z body in
+    let k : StmtKind = enter (record { base = x; fields = f ∷ fs }) z body giving in
     let p = judge_enter-field t.classes d.r.spot.env front x f fs z judged in
     let locals : locals_of s0 ≡ d.f.locals = ap top_locals d.frames in
     let at = bind-ok (follow_fields t.classes s.store (value_in (locals_of s0) x) (all_but_last f fs)) _ u h in
     let host = bind-ok (object_at s.store at.0) _ u at.2 in
     let o = bind-ok (object_at s.store (field_value t.classes host.0 (last_field f fs))) _ u host.2 in
     let bridge : Val = field_value t.classes host.0 (last_field f fs) in
-    let is : with_window s0 (field_at t.classes at.0 host.0 (last_field f fs)) z body bridge o.0.class (region_of o.0.label) ≡ u = grind arith in
+    let is : with_window s0 (field_at t.classes at.0 host.0 (last_field f fs)) z body (λ kept. leave_of line kept giving) bridge o.0.class (region_of
+    o.0.label) ≡ u = grind arith in
     let sees = top-sees t s.store d.f d.fs s.windows (Do (stmt line k) ∷ rest) d.r d.top d.fits.values in
     let P : List Local → Type 0 = λ q. follow_fields t.classes s.store (value_in q x) (all_but_last f fs) ≡ Ok at.0 in
     let r = receiver-at t.classes s.store s.windows (length d.fs) d.r.spot.env d.f.locals d.fits.objects sees x f fs p.ty at.0 host.0 p.writable
@@ -202,9 +212,12 @@ enter-field t s line x f fs z body rest d front judged u h =
       class = p.class;
       front_is = p.out_is;
     } in
-    let n = enter-kept t s line (record { base = x; fields = f ∷ fs }) z body rest d front judged b place bridge o.0 w.region e o.1
-    (r.address, r.field.place, refl) in
-    let S : Place → Type 0 = λ q. StaysFit t s (with_window s0 q z body bridge o.0.class (region_of o.0.label)) in
+    let n = enter-kept t s line (record { base = x; fields = f ∷ fs }) z body giving rest d front judged b place bridge o.0 w.region e o.1
+    (r.address, r.field.place, refl)
+    (ap (λ (q : Option Seen). option_map (λ (f : FieldOfClass). type_of t.classes f.ty)
+    (option_and_then (λ (q : Seen). slice_get (fields_of t.classes q.class) r.field.place) q)) r.there
+    ∙ ap (option_map (λ (f : FieldOfClass). type_of t.classes f.ty)) r.field.field_is ∙ ap Some field_ty) in
+    let S : Place → Type 0 = λ q. StaysFit t s (with_window s0 q z body (λ kept. leave_of line kept giving) bridge o.0.class (region_of o.0.label)) in
     let T : State → Type 0 = λ q. StaysFit t s q in subst T is (subst S (sym place_is) n)
   where
     field-iso : (ws : List Window) (own : Label) → IsTop ws own → (l : Label) → FieldFits ws own Iso l → IsRegion l
@@ -219,18 +232,20 @@ enter-field t s line x f fs z body rest d front judged u h =
     field-iso (w ∷ ws) Frozen (inr top) l h = grind arith
 
 pub enter-keeps : EnterKeeps
-enter-keeps p z body line t s u rest a f is went =
-    let d = doing t a s line (enter p z body) rest is f in
-    let h = stepped-went line (step_kind t.classes (record s { items = rest }) line (enter p z body)) u (rw is at went) in
-    let j = doing-judges t s line (enter p z body) rest d in
+enter-keeps p z body giving line t s u rest a f is went =
+    let d = doing t a s line (enter p z body giving) rest is f in
+    let h = stepped-went line (step_kind t.classes (record s { items = rest }) line (enter p z body giving)) u (rw is at went) in
+    let j = doing-judges t s line (enter p z body giving) rest d in
     let e = bind-ok (at_line line (judge_enter t.classes d.r.spot.env p.base p.fields z)) _ j.out j.judged in
     by_path p d e.0 (at_line-ok line (judge_enter t.classes d.r.spot.env p.base p.fields z) e.0 e.1) h
   where
-    by_fields : (x : Variable) (fs : List Name) (d : Doing t s line (enter (record { base = x; fields = fs }) z body) rest) (front : Env) →
-        judge_enter t.classes d.r.spot.env x fs z ≡ Ok front → step_enter t.classes (record s { items = rest }) x fs z body ≡ Ok u → StaysFit t s u
-    by_fields x [] d front e h = enter-variable t s line x z body rest d front e u h
-    by_fields x (g ∷ fs) d front e h = enter-field t s line x g fs z body rest d front e u h
+    by_fields : (x : Variable) (fs : List Name) (d : Doing t s line (enter (record { base = x; fields = fs }) z body giving) rest) (front : Env) →
+        judge_enter t.classes d.r.spot.env x fs z ≡ Ok front →
+        step_enter t.classes (record s { items = rest }) x fs z body (λ kept. leave_of line kept giving) ≡ Ok u → StaysFit t s u
+    by_fields x [] d front e h = enter-variable t s line x z body giving rest d front e u h
+    by_fields x (g ∷ fs) d front e h = enter-field t s line x g fs z body giving rest d front e u h
 
-    by_path : (p : Path) (d : Doing t s line (enter p z body) rest) (front : Env) → judge_enter t.classes d.r.spot.env p.base p.fields z ≡ Ok front →
-        step_enter t.classes (record s { items = rest }) p.base p.fields z body ≡ Ok u → StaysFit t s u
+    by_path : (p : Path) (d : Doing t s line (enter p z body giving) rest) (front : Env) →
+        judge_enter t.classes d.r.spot.env p.base p.fields z ≡ Ok front →
+        step_enter t.classes (record s { items = rest }) p.base p.fields z body (λ kept. leave_of line kept giving) ≡ Ok u → StaysFit t s u
     by_path p d front e h = by_fields p.base p.fields d front e h

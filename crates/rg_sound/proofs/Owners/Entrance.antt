@@ -4,7 +4,7 @@ use Rattle.std.proofs.Common.{true, false, ◌||◌, ◌&&◌, if◌then◌else�
 use Rattle.std.proofs.Common.{arith}
 use Rattle.std.proofs.lemmas.List.{reverse-append}
 use Rattle.std.proofs.lemmas.Option.{slice_get_within, same_Some}
-use Rattle.rg_base.specs.declared.words.Cap.TheVariants.{Mut}
+use Rattle.rg_base.specs.declared.words.Cap.TheVariants.{Mut, Iso}
 use Rattle.rg_base.specs.declared.ty.Ty.TheVariants.{Ref}
 use Rattle.rg_base.specs.declared.object.Label.{Label}
 use Rattle.rg_base.specs.declared.object.Label.TheVariants.{Region}
@@ -16,7 +16,7 @@ use Rattle.rg_base.specs.declared.value.Val.TheVariants.{Obj}
 use Rattle.rg_tree.specs.Tree.{Name, Variable, Path, Tree, Class, Block, empty as none, then as next, stmt, enter}
 use Rattle.rg_rules.specs.Environment.{Env, Entry, lent, same_variable, marked_entry, with_variable}
 use Rattle.rg_rules.specs.Statements.{judge_enter}
-use Rattle.rg_rules.specs.Items.{Item, Do, LeaveAt, items_of}
+use Rattle.rg_rules.specs.Items.{Item, Do, leave_of, items_of}
 use Rattle.rg_rules.specs.Points.{Spot, first, inner_block}
 use Rattle.rg_rules.specs.State.{Local, Frame, Window, State, place_in}
 use Rattle.rg_rules.specs.Evaluation.{object_at}
@@ -37,7 +37,7 @@ use Rattle.rg_sound.proofs.Frames.Body.{items_of-begins}
 use Rattle.rg_sound.proofs.Frames.Entry.{Distinct, same_variable-same, same_variable-true}
 use Rattle.rg_sound.proofs.Frames.Judge.{lent_entries, length-lent}
 use Rattle.rg_sound.proofs.Frames.Named.{Named-length, first-at}
-use Rattle.rg_sound.proofs.Frames.Spot.{AllWithin, leaves-items_of, deepen, spot-inside}
+use Rattle.rg_sound.proofs.Frames.Spot.{AllWithin, leaves-items_of, leaves-leave_of, deepen, spot-inside}
 use Rattle.rg_sound.proofs.Owners.Owner.{AllOwners}
 use Rattle.rg_sound.proofs.Owners.Data.{Data, data-fit, puts-snoc, put-local, NotOwner}
 use Rattle.rg_sound.proofs.Frames.Stands.{stands-more}
@@ -46,6 +46,8 @@ use Rattle.rg_sound.proofs.Values.Right.{not_iso-fresh}
 use Rattle.rg_sound.proofs.Values.Assign.{Doing}
 use Rattle.rg_sound.proofs.Owners.Window.{covers-not, lower-in_front, FramesInFront, push-window}
 use Rattle.rg_sound.proofs.Owners.LeaveFrame.{distinct-place, beneath-window}
+use Rattle.rg_sound.specs.Bridges.{type_at}
+use Rattle.rg_sound.proofs.Owners.Bridge.{bridges-enter}
 
 -- a window whose region a reference at a place leads into is owned there, or is the first one
 pub open-owner : (classes : List Class) (store : List Seen) (frames : List Frame) (ws : List Window) → AllOwned classes store frames ws →
@@ -289,26 +291,29 @@ items_of-append none xs ys = refl
 items_of-append (next s b) xs ys = ap (λ q. Do s ∷ q) (items_of-append b xs ys)
 
 -- the topmost frame goes into the block
-enter-runs : (t : Tree) (s : State) (line : ℕ) (p : Path) (z : Name) (body : Block) (rest : List Item) (d : Doing t s line (enter p z body) rest)
+enter-runs : (t : Tree) (s : State) (line : ℕ) (p : Path) (z : Name) (body : Block) (giving : Option Name) (rest : List Item)
+    (d : Doing t s line (enter p z body giving) rest)
     (front : Env) →
     judge_enter t.classes d.r.spot.env p.base p.fields z ≡ Ok front → (b : Fronts d.r.spot.env front p.base p.fields z) →
     (w : Window) (place : Place) (bridge : Val) →
     w.owner ≡ Some place → w.base_frame ≡ length d.fs → w.base_place ≡ length d.f.locals →
     EntersPlace (length d.fs) d.r.spot.env.entries d.f.locals p.base p.fields place →
     Running t (record d.f { locals = d.f.locals ++ record { name = Some z; ty = Ref Mut b.class; value = bridge } ∷ [] }) d.fs (w ∷ s.windows)
-    (items_of body (LeaveAt (length d.f.locals) ∷ rest))
-enter-runs t s line p z body rest d front judged b w place bridge owner base_frame base_place at =
+    (items_of body (leave_of line (length d.f.locals) giving ∷ rest))
+enter-runs t s line p z body giving rest d front judged b w place bridge owner base_frame base_place at =
     let r = d.r in
-    let is = running-first t d.f d.fs s.windows (Do (stmt line (enter p z body))) rest r in
-    let opens : inner_block t.classes r.spot.env (enter p z body) first ≡ Some (record { env = front; block = body }) = rw judged refl in
-    let inside = spot-inside t.classes r.body.result r.body.front r.body.block r.body.after [] r.point r.spot line (enter p z body) r.more first
+    let is = running-first t d.f d.fs s.windows (Do (stmt line (enter p z body giving))) rest r in
+    let opens : inner_block t.classes r.spot.env (enter p z body giving) first ≡ Some (record { env = front; block = body }) = rw judged refl in
+    let inside = spot-inside t.classes r.body.result r.body.front r.body.block r.body.after [] r.point r.spot line (enter p z body giving) r.more
+    first
     (record { env = front; block = body })
     d.top.right.free r.spot_is is.0 opens in
     let count = Named-length r.spot.env.entries d.f.locals r.stands.named in
-    let mine : List Item = items_of body (LeaveAt (length r.spot.env.entries) ∷ r.more) in
+    let mine : List Item = items_of body (leave_of line (length r.spot.env.entries) giving ∷ r.more) in
     let old_leaves : leaves r.spot.items ≡ leaves r.more = ap leaves is.0 in
     let ends : leaves mine ≡ length d.f.locals ∷ leaves r.spot.items =
-    leaves-items_of body (LeaveAt (length r.spot.env.entries) ∷ r.more) ∙ ap (λ q. q ∷ leaves r.more) count
+    leaves-items_of body (leave_of line (length r.spot.env.entries) giving ∷ r.more)
+    ∙ leaves-leave_of line (length r.spot.env.entries) giving r.more ∙ ap (λ q. q ∷ leaves r.more) count
     ∙ ap (λ q. length d.f.locals ∷ q) (sym old_leaves) in
     let mid = enter-stands d.f (length d.fs) w r.own r.spot b.before p.base p.fields place mine r.stands b.entries d.top.spot.distinct owner
     base_frame base_place at ends in
@@ -323,8 +328,8 @@ enter-runs t s line p z body rest d front judged b w place bridge owner base_fra
     let stands = stands-more d.f g (length d.fs) (w ∷ r.own) (record { env = b.before; items = mine; enters = r.spot.enters ++ p ∷ [] }) l (Some z)
     (Ref Mut b.class) mid refl refl refl depth within in
     let R : Env → Type 0 = λ q. Stands g (length d.fs) (w ∷ r.own) (record { env = q; items = mine; enters = r.spot.enters ++ p ∷ [] }) in
-    let n = items_of-begins body (LeaveAt (length r.spot.env.entries) ∷ r.more)
-    (record { first = LeaveAt (length r.spot.env.entries); more = r.more; is = refl }) in
+    let n = items_of-begins body (leave_of line (length r.spot.env.entries) giving ∷ r.more)
+    (record { first = leave_of line (length r.spot.env.entries) giving; more = r.more; is = refl }) in
     record {
       body = r.body;
       own = w ∷ r.own;
@@ -338,21 +343,23 @@ enter-runs t s line p z body rest d front judged b w place bridge owner base_fra
       more = n.more;
       begins = n.is;
       rest = r.rest;
-      items_are = ap (λ q. items_of body (LeaveAt (length d.f.locals) ∷ q)) is.1
-          ∙ ap (λ q. items_of body (LeaveAt q ∷ (r.more ++ r.rest))) (sym count)
-          ∙ items_of-append body (LeaveAt (length r.spot.env.entries) ∷ r.more) r.rest ∙ ap (λ q. q ++ r.rest) n.is;
+      items_are = ap (λ q. items_of body (leave_of line (length d.f.locals) giving ∷ q)) is.1
+          ∙ ap (λ q. items_of body (leave_of line q giving ∷ (r.more ++ r.rest))) (sym count)
+          ∙ items_of-append body (leave_of line (length r.spot.env.entries) giving ∷ r.more) r.rest ∙ ap (λ q. q ++ r.rest) n.is;
       beneath = r.beneath;
     }
 
 -- the state behind the `enter`
-pub enter-kept : (t : Tree) (s : State) (line : ℕ) (p : Path) (z : Name) (body : Block) (rest : List Item) (d : Doing t s line (enter p z body) rest)
+pub enter-kept : (t : Tree) (s : State) (line : ℕ) (p : Path) (z : Name) (body : Block) (giving : Option Name) (rest : List Item)
+    (d : Doing t s line (enter p z body giving) rest)
     (front : Env) →
     judge_enter t.classes d.r.spot.env p.base p.fields z ≡ Ok front → (b : Fronts d.r.spot.env front p.base p.fields z) →
     (place : Place) (bridge : Val) (o : Seen) (region : ℕ) →
     Entrance t s.store d.f d.fs s.windows place bridge b.class region → object_at s.store bridge ≡ Ok o →
     EntersPlace (length d.fs) d.r.spot.env.entries d.f.locals p.base p.fields place →
-    StaysFit t s (with_window (record s { items = rest }) place z body bridge o.class (region_of o.label))
-enter-kept t s line p z body rest d front judged b place bridge o region e there at =
+    type_at t.classes s.store (d.f ∷ d.fs) place ≡ Some (Ref Iso b.class) →
+    StaysFit t s (with_window (record s { items = rest }) place z body (λ kept. leave_of line kept giving) bridge o.class (region_of o.label))
+enter-kept t s line p z body giving rest d front judged b place bridge o region e there at owner_ty =
     let a = object_at-ok s.store bridge o there in
     let address_is : Obj e.at ≡ Obj a.address = sym e.bridge_is ∙ a.value in
     let same_address : e.at ≡ a.address = grind arith in
@@ -375,9 +382,13 @@ enter-kept t s line p z body rest d front judged b place bridge o region e there
       windows = w ∷ s.windows;
       windows_made = s.windows_made + 1;
       items =
-          items_of body (LeaveAt (length d.f.locals) ∷ rest);
+          items_of body (leave_of line (length d.f.locals) giving ∷ rest);
     } in
-    let is : with_window s0 place z body bridge o.class (region_of o.label) ≡ u = rw (label_is, class_is, d.frames) refl in
+    let is : with_window s0 place z body (λ kept. leave_of line kept giving) bridge o.class (region_of o.label) ≡ u = rw (
+      label_is,
+      class_is,
+      d.frames,
+    ) refl in
     let v = under_window t s d in
     let P : List Window → Type 0 = λ q. Data t.classes s.store (d.f ∷ d.fs) q (length s.managers) s.windows_made in
     let Q : List Window → Type 0 = λ q. Entrance t s.store d.f d.fs q place bridge b.class region in
@@ -385,11 +396,12 @@ enter-kept t s line p z body rest d front judged b place bridge o region e there
     let T : List Window → Type 0 = λ q. Data t.classes s.store (g ∷ d.fs) (w ∷ q) (length s.managers) (s.windows_made + 1) in
     let fits = enter-data t s.store d.f d.fs v.0 v.1 (length s.managers) s.windows_made place bridge b.class region z (subst P v.2 d.fits)
     (subst Q v.2 e) w refl
-    (subst R v.2 (top-new_owner t d.f d.fs s.windows (Do (stmt line (enter p z body)) ∷ rest) d.r d.top)) in
-    let run = enter-runs t s line p z body rest d front judged b w place bridge refl refl refl at in
-    rw is (record { fit = data-fit t u (inl run) (subst T (sym v.2) fits); allowed = allowed-same s u refl })
+    (subst R v.2 (top-new_owner t d.f d.fs s.windows (Do (stmt line (enter p z body giving)) ∷ rest) d.r d.top)) in
+    let run = enter-runs t s line p z body giving rest d front judged b w place bridge refl refl refl at in
+    let bridged = bridges-enter t.classes s.store d.f d.fs w s.windows place b.class l refl refl refl refl owner_ty d.bridged in
+    rw is (record { fit = data-fit t u (inl run) (subst T (sym v.2) fits) bridged; allowed = allowed-same s u refl })
   where
-    under_window : (t : Tree) (s : State) (d : Doing t s line (enter p z body) rest) → (v : Window) × (us : List Window) × (s.windows ≡ v ∷ us)
+    under_window : (t : Tree) (s : State) (d : Doing t s line (enter p z body giving) rest) → (v : Window) × (us : List Window) × (s.windows ≡ v ∷ us)
     under_window t s d =
         let u = beneath-window t d.fs d.r.under d.r.rest d.r.body d.f.target d.r.beneath in go d.r.own d.r.under s.windows d.r.windows_are u
       where

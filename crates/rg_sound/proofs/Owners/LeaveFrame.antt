@@ -1,13 +1,13 @@
 -- The frame behind the block of an `enter`.
 use Rattle.std.proofs.Common.{◌≡◌, refl, sym, ◌∙◌, ap, subst, ◌⊎◌, inl, inr, ◌↔◌, ℕ, zero, suc, Bool as Truth, true, false, if◌then◌else◌, List, []}
-use Rattle.std.proofs.Common.{◌∷◌, ◌++◌, length, take, map, reverse, find, Option, Some, None, slice_get, arith}
+use Rattle.std.proofs.Common.{◌∷◌, ◌++◌, length, take, map, reverse, Option, Some, None, slice_get, arith}
 use Rattle.std.proofs.lemmas.Option.{slice_get_within, same_Some}
 use Rattle.rg_base.specs.declared.object.Place.{Place}
 use Rattle.rg_base.specs.declared.object.Place.TheVariants.{Var, Field}
 use Rattle.rg_base.specs.declared.object.Seen.{Seen}
 use Rattle.rg_tree.specs.Tree.{Name, Variable, Path, Ty as Written, Tree, Class}
 use Rattle.rg_rules.specs.Environment.{Env, Entry, Readiness, lent, is_lent, same_variable, marked_entry}
-use Rattle.rg_rules.specs.Items.{Item, EndAt, LeaveAt}
+use Rattle.rg_rules.specs.Items.{Item, EndAt, leave_of}
 use Rattle.rg_rules.specs.Bodies.{Body, method_end}
 use Rattle.rg_rules.specs.Points.{Spot}
 use Rattle.rg_rules.specs.State.{Target, Local, Frame, Window}
@@ -16,27 +16,34 @@ use Rattle.rg_sound.specs.Windows.{covers, covering, lowest}
 use Rattle.rg_sound.specs.OpenRegions.{AllOwned, OneWindowEach}
 use Rattle.rg_sound.specs.Frames.{leaves, Stands, Beneath, Named, IsNamed, Enters, Entered, Lends}
 use Rattle.rg_sound.proofs.Basics.{none-some}
-use Rattle.rg_sound.proofs.Frames.Entry.{Absent, Distinct, Keeps, Keeps-at, settled_readiness, same_variable-same, same_variable-true}
+use Rattle.rg_sound.proofs.Frames.Entry.{Absent, Distinct, distinct-find, Keeps, Keeps-at, settled_readiness, same_variable-same, same_variable-true}
 use Rattle.rg_sound.proofs.Frames.Judge.{lent_entries, length-lent}
 use Rattle.rg_sound.proofs.Frames.Named.{Named-at, Named-entry}
 use Rattle.rg_sound.proofs.Frames.SpotEnd.{IsFreed}
 use Rattle.rg_sound.proofs.Owners.Owner.{AllOwners}
 use Rattle.rg_sound.proofs.Frames.Stands.{IsBefore, named-front, settled-lent, entered-taken}
 use Rattle.rg_sound.proofs.Owners.Window.{covers-not}
+use Rattle.rg_sound.proofs.Frames.Spot.{leaves-leave_of}
 
 -- the body of a method or of main doesn't end so
-pub no-leave : {B : Type 0} (t : Tree) (fs : List Frame) (ws : List Window) (items : List Item) (b : Body) (target : Target) (k : ℕ)
-    (mine : List Item) →
-    Beneath t fs ws items b target → b.after ≡ LeaveAt k ∷ mine → B
-no-leave t [] ws items b target k mine h e = let all : EndAt 0 ∷ [] ≡ LeaveAt k ∷ mine = sym (ap (λ (q : Body). q.after) h.0) ∙ e in grind arith
-no-leave t (f ∷ fs) ws items b target k mine h e = elim (h.7) [
-  | inl w ↦ not_so _ (sym (ap (λ (q : Body). q.after) w.calls.callee_is) ∙ e)
-  | inr w ↦ not_so _ (sym (ap (λ (q : Body). q.after) w.callee_is) ∙ e)
+pub no-leave : {B : Type 0} (t : Tree) (fs : List Frame) (ws : List Window) (items : List Item) (b : Body) (target : Target) (line k : ℕ)
+    (giving : Option Name) (mine : List Item) →
+    Beneath t fs ws items b target → b.after ≡ leave_of line k giving ∷ mine → B
+no-leave t [] ws items b target line k giving mine h e = not_end giving (sym (ap (λ (q : Body). q.after) h.0) ∙ e)
+  where
+    not_end : {B : Type 0} (giving : Option Name) → EndAt 0 ∷ [] ≡ leave_of line k giving ∷ mine → B
+    not_end None e = grind arith
+    not_end (Some w) e = grind arith
+no-leave t (f ∷ fs) ws items b target line k giving mine h e = elim (h.7) [
+  | inl w ↦ not_so giving _ (sym (ap (λ (q : Body). q.after) w.calls.callee_is) ∙ e)
+  | inr w ↦ not_so giving _ (sym (ap (λ (q : Body). q.after) w.callee_is) ∙ e)
 ]
   where
-    not_so : {B : Type 0} (r : Option Written) → method_end r ≡ LeaveAt k ∷ mine → B
-    not_so None e = grind arith
-    not_so (Some r) e = grind arith
+    not_so : {B : Type 0} (giving : Option Name) (r : Option Written) → method_end r ≡ leave_of line k giving ∷ mine → B
+    not_so None None e = grind arith
+    not_so None (Some r) e = grind arith
+    not_so (Some w) None e = grind arith
+    not_so (Some w) (Some r) e = grind arith
 
 -- beneath a frame there is a window
 pub beneath-window : (t : Tree) (fs : List Frame) (ws : List Window) (items : List Item) (b : Body) (target : Target) →
@@ -52,35 +59,6 @@ beneath-window t (f ∷ fs) ws items b target h =
     front (w ∷ own) under ws e r = (w, own ++ under, e)
 
 -- Names
-
-distinct-find_by : (b : Truth) (x : Variable) (f e : Entry) (es : List Entry) → same_variable f.name x ≡ b → (i : ℕ) →
-    slice_get (f ∷ es) i ≡ Some e → e.name ≡ x → Absent f.name es →
-    ((j : ℕ) → slice_get es j ≡ Some e → find (λ (o : Entry). same_variable o.name x) es ≡ Some e) →
-    (if b then Some f else find (λ (o : Entry). same_variable o.name x) es) ≡ Some e
-distinct-find_by true x f e es at zero g n a rest = g
-distinct-find_by true x f e es at (suc i) g n a rest =
-    let name : f.name ≡ x = same_variable-true f.name x at in
-    absurd (absent-at es i g (let P : Variable → Type 0 = λ q. Absent q es in subst P name a))
-  where
-    absent-at : (es : List Entry) (i : ℕ) → slice_get es i ≡ Some e → Absent x es → ⊥
-    absent-at [] i g a = none-some g
-    absent-at (o ∷ es) zero g a =
-        let one : o ≡ e = same_Some o e g in
-        let yes : same_variable o.name x ≡ true = rw (ap (λ (q : Entry). q.name) one, n) (same_variable-same x) in
-        let c : false ≡ true = sym a.0 ∙ yes in grind arith
-    absent-at (o ∷ es) (suc i) g a = absent-at es i g a.1
-distinct-find_by false x f e es at zero g n a rest =
-    let one : f ≡ e = same_Some f e g in
-    let yes : same_variable f.name x ≡ true = rw (ap (λ (q : Entry). q.name) one, n) (same_variable-same x) in
-    let c : false ≡ true = sym at ∙ yes in grind arith
-distinct-find_by false x f e es at (suc i) g n a rest = rest i g
-
--- where names differ, each entry is the first of its name
-pub distinct-find : (x : Variable) (es : List Entry) (i : ℕ) (e : Entry) → Distinct es → slice_get es i ≡ Some e → e.name ≡ x →
-    find (λ (o : Entry). same_variable o.name x) es ≡ Some e
-distinct-find x [] i e d g n = none-some g
-distinct-find x (f ∷ es) i e d g n =
-    distinct-find_by (same_variable f.name x) x f e es refl i g n d.0 (λ j h. distinct-find x es j e d.1 h n)
 
 -- and stands at one place
 pub distinct-place : (es : List Entry) (i j : ℕ) (e o : Entry) → Distinct es → slice_get es i ≡ Some e → slice_get es j ≡ Some o → e.name ≡ o.name →
@@ -235,18 +213,19 @@ enters-variable n ls x (Some (Field a j)) h = absurd h
 
 -- the frame behind the `enter`
 pub leave-stands : (f g : Frame) (n : ℕ) (w : Window) (own : List Window) (old : Spot) (env : Env) (path : Path) (enters : List Path)
-    (mine : List Item) →
+    (line : ℕ) (giving : Option Name) (mine : List Item) →
     Stands f n (w ∷ own) old → Keeps (lent_entries path.base path.fields env.entries) old.env.entries → reverse old.enters ≡ path ∷ reverse enters →
-    old.items ≡ LeaveAt (length env.entries) ∷ mine → g.locals ≡ take (length env.entries) f.locals → Distinct old.env.entries →
+    old.items ≡ leave_of line (length env.entries) giving ∷ mine → g.locals ≡ take (length env.entries) f.locals → Distinct old.env.entries →
     Distinct env.entries → IsFreed path.base path.fields env →
     AllOwners own (IsBefore n (length env.entries)) → ((i : ℕ) → w.owner ≡ Some (Var n i) → Lends own n i → ⊥) →
     Stands g n own (record { env = env; items = mine; enters = enters })
-leave-stands f g n w own old env p enters mine h k back items is distinct d free before once =
+leave-stands f g n w own old env p enters line giving mine h k back items is distinct d free before once =
     let P : List Local → Type 0 = λ q. Named env.entries q in
     let Q : List Local → Type 0 = λ q. Entered n q (reverse enters) own in
     let R : List Path → Type 0 = λ q. Entered n f.locals q (w ∷ own) in
     let e = subst R back h.entered in
-    let bases : w.base_place ∷ map (λ (u : Window). u.base_place) own ≡ length env.entries ∷ leaves mine = h.bases ∙ ap leaves items in
+    let bases : w.base_place ∷ map (λ (u : Window). u.base_place) own ≡ length env.entries ∷ leaves mine =
+    h.bases ∙ ap leaves items ∙ leaves-leave_of line (length env.entries) giving mine in
     let base : w.base_place ≡ length env.entries = grind arith in
     let others : map (λ (u : Window). u.base_place) own ≡ leaves mine = grind arith in
     let T : ℕ → Type 0 = λ z. Named (lent_entries p.base p.fields env.entries) (take z f.locals) in

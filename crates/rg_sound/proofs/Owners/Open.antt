@@ -1,5 +1,5 @@
 -- Regions above open ones are open; a region that hangs beneath an open one may get another owner there.
-use Rattle.std.proofs.Common.{◌≡◌, ◌≢◌, refl, sym, ◌∙◌, ap, subst, ◌⊎◌, inl, inr, ℕ, List, [], ◌∷◌, Option}
+use Rattle.std.proofs.Common.{◌≡◌, ◌≢◌, refl, sym, ◌∙◌, ap, subst, ◌⊎◌, inl, inr, ℕ, List, [], ◌∷◌, length, Option}
 use Rattle.std.proofs.Common.{Some, None, option_and_then, slice_get, slice_set, arith}
 use Rattle.std.proofs.lemmas.Option.{same_Some}
 use Rattle.std.proofs.lemmas.Bool.{cases_eq}
@@ -9,11 +9,10 @@ use Rattle.rg_base.specs.declared.object.Place.{Place}
 use Rattle.rg_base.specs.declared.object.Place.TheVariants.{Var, Field}
 use Rattle.rg_base.specs.declared.object.Seen.{Seen}
 use Rattle.rg_tree.specs.Tree.{Class}
-use Rattle.rg_rules.specs.Types.{fields_of}
 use Rattle.rg_rules.specs.State.{Frame, Window}
 use Rattle.rg_rules.specs.Regions.{region_of, region_at}
 use Rattle.rg_rules.specs.Owners.{owned_by_slot, owned_by_field, owned_in_field, owned_in_frame, leads_into, Parent, Above, direct, further}
-use Rattle.rg_sound.specs.Objects.{FieldFits, FieldsMeet}
+use Rattle.rg_sound.specs.Objects.{FieldFits, FieldsMeet, fields_in}
 use Rattle.rg_sound.specs.OpenRegions.{IsNear, AllOwned}
 use Rattle.rg_sound.proofs.Basics.{none-some}
 use Rattle.rg_sound.proofs.Owners.Owner.{get-set, get-set-other, OwnersCome, AllOwners, AllOwners-map, forest-come, open-come}
@@ -131,16 +130,16 @@ Came store a j owner q r = (q ≡ Field a j) × (option_and_then (region_at stor
 
 -- the store with another object of the topmost window at an address, one field of which owns a region that nothing owned
 pub store-put : (classes : List Class) (store : List Seen) (frames : List Frame) (ws : List Window) (regions made : ℕ) (a : ℕ) (o n : Seen) (j : ℕ)
-    (owner : Option ℕ) → Data classes store frames ws regions made →
-    slice_get store a ≡ Some o → n.class ≡ o.class → n.label ≡ o.label → IsTop ws o.label →
+    (owner : Option ℕ) (d : Data classes store frames ws regions made) (there : slice_get store a ≡ Some o) → n.class ≡ o.class → n.label ≡ o.label →
+    IsTop ws o.label →
     ((i : ℕ) → i ≢ j → owned_by_slot classes n i ≡ owned_by_slot classes o i) → owned_by_slot classes n j ≡ owner →
     ((r : ℕ) → option_and_then (region_at store) owner ≡ Some r → (r ≢ 0) × ((q : Place) → ¬ (leads_into classes store frames q ≡ Some r))) →
-    AllOwners ws (λ p. p ≢ Field a j) →
-    FieldsMeet classes store (FieldFits ws o.label) (fields_of classes o.class) n.fields →
+    AllOwners ws (λ p. p ≢ Field a j) → length n.fields ≡ length o.fields →
+    FieldsMeet classes store (FieldFits ws o.label) (fields_in classes (d.objects a o there).class o) n.fields →
     Data classes (slice_set store a n) frames ws regions made
-store-put classes store frames ws regions made a o n j owner d there class label top owns new_owner fresh not_owner meets = record {
+store-put classes store frames ws regions made a o n j owner d there class label top owns new_owner fresh not_owner long meets = record {
   values = values-kept store (slice_set store a n) ws frames (replaced-keeps store a o n there class label) d.values;
-  objects = replaced-objects store a o n there class label classes ws d.objects meets;
+  objects = replaced-objects store a o n there class label classes ws d.objects long meets;
   opened = open-come classes store (slice_set store a n) frames frames (Came store a j owner) come ws d.opened
       (AllOwners-map ws (λ p. p ≢ Field a j) _ kept not_owner)
       (replaced-near store a o n there class label);

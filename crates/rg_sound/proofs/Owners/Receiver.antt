@@ -33,6 +33,7 @@ use Rattle.rg_sound.specs.Numbers.{Rising}
 use Rattle.rg_sound.proofs.Basics.{none-some}
 use Rattle.rg_sound.proofs.Owners.Owner.{AllOwners}
 use Rattle.rg_sound.proofs.Values.Value.{Sees, walk-meets, slot_value, field_value-slot}
+use Rattle.rg_sound.proofs.Values.Declared.{named-fields}
 use Rattle.rg_sound.proofs.Owners.Window.{rising-below}
 
 -- a label is the region or the number of the topmost window
@@ -40,7 +41,7 @@ abbrev pub IsTop : List Window → Label → Type 0
 IsTop [] l = ⊥
 IsTop (w ∷ ws) l = (l ≡ Region w.region) ⊎ (l ≡ Temp w.number)
 
-writes-top : (ws : List Window) (cap : Cap) (l : Label) → may_write cap ≡ true → LabelFits ws cap l → IsTop ws l
+pub writes-top : (ws : List Window) (cap : Cap) (l : Label) → may_write cap ≡ true → LabelFits ws cap l → IsTop ws l
 writes-top [] Mut l e h = h
 writes-top (w ∷ ws) Mut l e h = inl h
 writes-top [] Tmp l e h = h
@@ -144,7 +145,7 @@ receiver-at classes store ws n env locals fit s x f fs t at o e h k =
       there = d.there;
       top = writes-top ws a.0.receiver o.label b.0 (subst R one n.label_fits);
       field = field-at classes store (FieldFits ws o.label) (fields_of classes o.class) o.fields (last_field f fs) t
-          (fit d.address o d.there).fields ty;
+          (named-fields classes store ws o (fit d.address o d.there) (last_field f fs) t ty) ty;
     }
 
 -- the value that is read there

@@ -49,9 +49,11 @@ use Rattle.rg_sound.proofs.Owners.Receiver.{IsTop, receiver-at, receiver-value, 
 use Rattle.rg_sound.proofs.Owners.Enter.{seen-iso}
 use Rattle.rg_sound.proofs.Values.Argument.{take-less, take-was}
 use Rattle.rg_sound.proofs.Stores.Replace.{MeetsRef-kept, owned-label, replaced-keeps, replaced-region}
-use Rattle.rg_sound.proofs.Stores.Store.{FieldsMeet-set}
-use Rattle.rg_sound.proofs.Stores.Field.{field-holds, allowed-set, with-field-is, put-field-is}
+use Rattle.rg_sound.proofs.Stores.Field.{field-set, field-holds, allowed-set, with-field-is, put-field-is}
 use Rattle.rg_sound.proofs.Owners.Open.{store-put}
+use Rattle.rg_sound.proofs.Owners.Owner.{length-slice_set}
+use Rattle.rg_sound.proofs.Frames.Quiet.{active-allowed}
+use Rattle.rg_sound.proofs.Owners.Bridge.{classes-set, named-types, bridges-top}
 
 set-twice : (x : Variable) (v w : Val) (ls : List Local) → set_in x w (set_in x v ls) ≡ set_in x w ls
 set-twice x v w [] = refl
@@ -201,7 +203,7 @@ swap-kept t a s line y x f fs rest d out p at host follows there =
     let Q : Ty → Type 0 = λ z. Meets s.store s.windows z v in
     let v_meets : Meets s.store s.windows p.ty v = subst Q (seen-iso env p.entry c.0 c.1 ∙ sym field_ty)
     (seen-meets s.store s.windows (length d.fs) env d.f.locals sees (Some y) p.entry p.there) in
-    let object = d.fits.objects q.address host q.there in
+    let object = taken.fits.objects q.address host q.there in
     let holds = field-holds t a s.store s.store s.windows host name p.ty v object q.top q.field v_meets in
     let R : Ty → Type 0 = λ z. MeetsBy s.store (FieldFits s.windows host.label) z v in
     let owner_new : owned_by_slot t.classes n q.field.place ≡ address v =
@@ -214,8 +216,8 @@ swap-kept t a s line y x f fs rest d out p at host follows there =
     owner_new taken.unowned
     (top-not_owner_field t.classes s.store (f1 ∷ d.fs) s.windows taken.fits.opened.owned taken.fits.opened.one_each taken.fits.numbers.rising
     q.address q.field.place host q.there q.top)
-    (FieldsMeet-set t.classes s.store (FieldFits s.windows host.label) (fields_of t.classes host.class)
-    host.fields q.field.place q.field.field v object.fields q.field.field_is (subst R (sym q.field.type_is) holds)) in
+    (length-slice_set host.fields q.field.place v)
+    (field-set t.classes s.store s.windows host object q.field.place q.field.field v q.field.field_is (subst R (sym q.field.type_is) holds)) in
     let store : List Seen = slice_set s.store q.address n in
     let T : Ty → Type 0 = λ z. MeetsBy s.store (FieldFits s.windows host.label) z w in
     let U : Val → Type 0 = λ z. MeetsBy s.store (FieldFits s.windows host.label) p.ty z in
@@ -282,7 +284,12 @@ swap-kept t a s line y x f fs rest d out p at host follows there =
     let Y : Env → Type 0 = λ z. Stays env z in
     stands-stays d.f g (length d.fs) d.r.own d.r.spot o d.r.more d.r.stands (subst Y (sym b.out_is) (Stays-same env)) ends
     (Named-set_in (Some y) w env.entries d.f.locals d.r.stands.named)) in
-    rw is (record { fit = data-fit t u (inl run) fits; allowed = allowed-set s u q.address host n q.there refl q.top })
+    let bridged = bridges-top t.classes s.store store d.f g d.fs s.windows (classes-set s.store q.address host n q.there refl)
+    (named-types env.entries d.f.locals final d.r.stands.named (Named-set_in (Some y) w env.entries d.f.locals d.r.stands.named)) d.bridged in
+    rw is (record {
+      fit = data-fit t u (inl run) fits bridged;
+      allowed = active-allowed s u (stmt line k) rest d.items_are (allowed-set s u q.address host n q.there refl q.top);
+    })
 
 pub swap-keeps : SwapKeeps
 swap-keeps y p line t s u rest a f is went =

@@ -128,6 +128,7 @@ pop-window classes store frames w v ws regions made d front = record {
     label_is = f.label_is;
     fields = FieldsMeet-map classes store (FieldFits (w ∷ v ∷ ws) o.label) (FieldFits (v ∷ ws) o.label) _ o.fields
         (field-pop w (v ∷ ws) d.numbers.rising o.label) f.fields;
+    array = f.array;
   };
   opened = record {
     owned = d.opened.owned.1;
@@ -173,6 +174,7 @@ push-window classes store frames w v ws regions made d front below is = record {
     label_is = f.label_is;
     fields = FieldsMeet-map classes store (FieldFits (v ∷ ws) o.label) (FieldFits (w ∷ v ∷ ws) o.label) _ o.fields
         (field-push w (v ∷ ws) o.label regions made is.number (d.numbers.labels a o e)) f.fields;
+    array = f.array;
   };
   opened = record {
     owned = (

@@ -18,12 +18,9 @@ use Rattle.rg_sound.proofs.Owners.Data.{Data}
 use Rattle.rg_sound.proofs.Stores.Member.{In, among-in, in-among, in-left, in-right, in-split, joined-old, joined-new, joined-back, missing}
 use Rattle.rg_sound.proofs.Stores.Member.{filter-in}
 use Rattle.rg_sound.proofs.Stores.Member.{filter-back, counted, counted-most, counted-rises}
+use Rattle.rg_sound.proofs.Values.Declared.{owned_slot}
 
 -- The owner references of objects, as lists and by their places
-
--- the owner reference in a field of these, by its place
-abbrev pub owned_slot : List Class → List FieldOfClass → List Val → ℕ → Option ℕ
-owned_slot classes fs vs k = option_and_then (λ (f : FieldOfClass). option_and_then (owned_as classes f) (slice_get vs k)) (slice_get fs k)
 
 owned-in : (classes : List Class) (fs : List FieldOfClass) (vs : List Val) (k a : ℕ) → owned_slot classes fs vs k ≡ Some a →
     In a (owned_in classes fs vs)

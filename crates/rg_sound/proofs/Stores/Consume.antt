@@ -24,7 +24,7 @@ use Rattle.rg_rules.proofs.Answers.{bind-ok, test-then, ok_or-ok}
 use Rattle.rg_rules.proofs.Expression.{against-ok}
 use Rattle.rg_rules.proofs.Region.{slice_get-relabelled, class-relabelled_object, fields-relabelled_object}
 use Rattle.rg_sound.specs.Values.{LabelFits, Meets}
-use Rattle.rg_sound.specs.Writes.{Allowed}
+use Rattle.rg_sound.specs.Writes.{WritesActive}
 use Rattle.rg_sound.proofs.Frames.Named.{Named-set_in, first-at}
 use Rattle.rg_sound.proofs.Values.Value.{seen-meets}
 use Rattle.rg_sound.proofs.Frames.Top.{top-sees, top-not_owner}
@@ -36,6 +36,7 @@ use Rattle.rg_sound.proofs.Owners.Open.{IsOpenIn, open-owned}
 use Rattle.rg_sound.proofs.Stores.Make.{top-region}
 use Rattle.rg_sound.proofs.Stores.MergeLabel.{merged_label}
 use Rattle.rg_sound.proofs.Stores.Merge.{relabelled-label, merge-data}
+use Rattle.rg_sound.proofs.Owners.Bridge.{classes-relabelled}
 
 -- the parts of `freeze y` and `merge y`
 pub record Consumes (env : Env) (cap : Cap) (y : Name) (j : Judged) : Type 0 where
@@ -62,7 +63,7 @@ judge_consumed-parts env wanted cap y j h =
     }
 
 -- other labels aren't writes
-pub allowed-relabelled : (s u : State) (regions : List ℕ) (label : Label) → u.store ≡ relabelled regions label s.store → Allowed s u
+pub allowed-relabelled : (s u : State) (regions : List ℕ) (label : Label) → u.store ≡ relabelled regions label s.store → WritesActive s u
 allowed-relabelled s u regions label is a w =
     let after : slice_get u.store a ≡ Some (relabelled_object regions label w.object) = ap (λ q. slice_get q a) is
     ∙ slice_get-relabelled regions label s.store a ∙ ap (option_map (relabelled_object regions label)) w.there in
@@ -145,6 +146,7 @@ merge-righted y t s f fs later run top at d target put wanted j typed u h =
       meets = meets;
       fresh = not_iso-fresh t.classes (relabelled (w.region ∷ []) (Region a) s.store) (f1 ∷ fs) (ty.Ref Mut p.class) v refl;
       allowed = allowed-relabelled s after (w.region ∷ []) (Region a) refl;
+      classes = classes-relabelled (w.region ∷ []) (Region a) s.store;
       keeps = keeps-relabelled (w.region ∷ []) (Region a) s.store s.windows (λ q shown. not_open w.region q (λ same.
           let P : ℕ → Type 0 = λ z. IsOpenIn s.windows z in
           elim (open-owned t.classes s.store (f1 ∷ fs) s.windows k.fits.opened.owned w.region (subst P (sym same) shown))

@@ -25,7 +25,7 @@ use Rattle.rg_rules.specs.Statements.{judge_assign}
 use Rattle.rg_rules.specs.Items.{Item, Do}
 use Rattle.rg_rules.specs.State.{Local, Frame, Window, State, Drops, locals_of, top_locals, value_in, active, top_number}
 use Rattle.rg_rules.specs.Evaluation.{object_at, follow_fields, with_field}
-use Rattle.rg_rules.specs.Regions.{address, owned_as}
+use Rattle.rg_rules.specs.Regions.{region_at, address, owned_as}
 use Rattle.rg_rules.specs.Owners.{owned_by_slot}
 use Rattle.rg_rules.specs.Steps.{step_kind, put_field}
 use Rattle.rg_rules.proofs.Answers.{bind-ok, then-ok, test-ok, at_line-ok}
@@ -33,12 +33,12 @@ use Rattle.rg_rules.proofs.Acceptance.{Accepted-parts}
 use Rattle.rg_rules.proofs.Header.{judge_headers-field}
 use Rattle.rg_rules.proofs.Step.{stepped-went}
 use Rattle.rg_sound.specs.Values.{LabelFits, MeetsBy, Meets}
-use Rattle.rg_sound.specs.Objects.{IsTemp, FieldFits, ObjectFits}
+use Rattle.rg_sound.specs.Objects.{IsTemp, FieldFits, FieldsMeet, fields_in, ObjectFits}
 use Rattle.rg_sound.specs.Frames.{FramesFit, Running}
-use Rattle.rg_sound.specs.Writes.{Allowed, Writable}
+use Rattle.rg_sound.specs.Writes.{WritesActive, Writable}
 use Rattle.rg_sound.specs.Laws.{StaysFit, KindKeeps}
 use Rattle.rg_sound.proofs.Frames.Advance.{running-advance}
-use Rattle.rg_sound.proofs.Frames.Quiet.{allowed-same}
+use Rattle.rg_sound.proofs.Frames.Quiet.{writes-same, active-allowed}
 use Rattle.rg_sound.proofs.Frames.Judge.{FieldAssigned, judge_assign-field, judge_assign-stays}
 use Rattle.rg_sound.proofs.Values.Value.{below-meets, MeetsRef-map}
 use Rattle.rg_sound.proofs.Owners.Owner.{get-set, get-set-other}
@@ -48,26 +48,19 @@ use Rattle.rg_sound.proofs.Frames.Top.{top-sees}
 use Rattle.rg_sound.proofs.Values.Assign.{Doing, doing, doing-judges, Righted, RightGives, RightBelow}
 use Rattle.rg_sound.proofs.Owners.Receiver.{IsTop, FieldAt, receiver-at}
 use Rattle.rg_sound.proofs.Stores.Store.{FieldsMeet-set, may-hold, store-set}
+use Rattle.rg_sound.proofs.Values.Declared.{declared-fields}
+use Rattle.rg_sound.proofs.Owners.Owner.{length-slice_set}
+use Rattle.rg_sound.specs.Bridges.{BridgesFit}
+use Rattle.rg_sound.proofs.Owners.Bridge.{classes-then, classes-set, named-types, bridges-top}
 
--- what kind of field stands in an ordinary class
-field-suits : (t : Tree) → Accepted t → (old store : List Seen) (ws : List Window) (o : Seen) (x : Name) (cap : Cap) (c : ℕ) →
-    ObjectFits t.classes store ws o →
-    FieldAt t.classes old (FieldFits ws o.label) (fields_of t.classes o.class) o.fields x (Ref cap c) → (r : ℕ) → o.label ≡ Region r →
+-- what kind of field or element stands in an ordinary class
+pub suited : (classes : List Class) (w : Written) (cap : Cap) (c : ℕ) → type_of classes w ≡ Ref cap c → suits_field_type w false ≡ true →
     (cap ≢ Tmp) × (cap ≢ Paused)
-field-suits t a old store ws o x cap c fit f r label =
-    let j = judge_headers-field t.classes o.class x f.field (Accepted-parts t a).headers f.found in
-    let h = then-ok (good_type t.classes f.field.ty) _ tt j.passed in
-    let suits = test-ok (suits_field_type f.field.ty j.class.is_tmp) BadType tt h.2 in
-    let one : fit.class ≡ j.class = same_Some fit.class j.class (sym fit.class_is ∙ j.at) in
-    let P : Label → Type 0 = λ q. IsTemp q ↔ IsTrue fit.class.is_tmp in
-    let l = subst P label fit.label_is in
-    let ordinary : j.class.is_tmp ≡ false = ap (λ (q : Class). q.is_tmp) (sym one) ∙ not_true fit.class.is_tmp (λ e. l.1 e) in
-    by_type f.field.ty f.type_is (ap (suits_field_type f.field.ty) (sym ordinary) ∙ suits)
+suited classes int cap c e h = grind arith
+suited classes bool cap c e h = grind arith
+suited classes (ref k n) cap c e h =
+    let same : k ≡ cap = grind arith in let P : Cap → Type 0 = λ q. (q ≢ Tmp) × (q ≢ Paused) in subst P same (by_cap k h)
   where
-    not_true : (b : Truth) → (IsTrue b → ⊥) → b ≡ false
-    not_true true h = absurd (h refl)
-    not_true false h = refl
-
     by_cap : (k : Cap) → suits_field k false ≡ true → (k ≢ Tmp) × (k ≢ Paused)
     by_cap Mut h = (λ e. grind arith, λ e. grind arith)
     by_cap Tmp h = grind arith
@@ -75,21 +68,46 @@ field-suits t a old store ws o x cap c fit f r label =
     by_cap Imm h = (λ e. grind arith, λ e. grind arith)
     by_cap Iso h = (λ e. grind arith, λ e. grind arith)
 
-    by_type : (w : Written) → type_of t.classes w ≡ Ref cap c → suits_field_type w false ≡ true → (cap ≢ Tmp) × (cap ≢ Paused)
-    by_type int e h = grind arith
-    by_type bool e h = grind arith
-    by_type (ref k n) e h = let same : k ≡ cap = grind arith in let P : Cap → Type 0 = λ q. (q ≢ Tmp) × (q ≢ Paused) in subst P same (by_cap k h)
+-- the class of an object of a region is an ordinary one
+pub ordinary-class : (classes : List Class) (store : List Seen) (ws : List Window) (o : Seen) (fit : ObjectFits classes store ws o) (r : ℕ) →
+    o.label ≡ Region r → fit.class.is_tmp ≡ false
+ordinary-class classes store ws o fit r label =
+    let P : Label → Type 0 = λ q. IsTemp q ↔ IsTrue fit.class.is_tmp in
+    let l = subst P label fit.label_is in not_true fit.class.is_tmp (λ e. l.1 e)
+  where
+    not_true : (b : Truth) → (IsTrue b → ⊥) → b ≡ false
+    not_true true h = absurd (h refl)
+    not_true false h = refl
 
--- a value of the field's type may go there
+-- a value of a type may go where that type is declared, in an object of the topmost window
+pub type-holds : (store : List Seen) (ws : List Window) (own : Label) (ty : Ty) (v : Val) → IsTop ws own →
+    ((cap : Cap) (c : ℕ) → ty ≡ Ref cap c → (r : ℕ) → own ≡ Region r → (cap ≢ Tmp) × (cap ≢ Paused)) → Meets store ws ty v →
+    MeetsBy store (FieldFits ws own) ty v
+type-holds store ws own Int v top suits m = m
+type-holds store ws own Bool v top suits m = m
+type-holds store ws own (Ref cap c) v top suits m =
+    MeetsRef-map store c (LabelFits ws cap) (FieldFits ws own cap) v (λ l h. may-hold ws own cap l top (suits cap c refl) h) m
+
+-- and so where a field is declared so
 pub field-holds : (t : Tree) → Accepted t → (old store : List Seen) (ws : List Window) (o : Seen) (x : Name) (ty : Ty) (v : Val) →
     ObjectFits t.classes store ws o → IsTop ws o.label →
     FieldAt t.classes old (FieldFits ws o.label) (fields_of t.classes o.class) o.fields x ty → Meets store ws ty v →
     MeetsBy store (FieldFits ws o.label) ty v
-field-holds t a old store ws o x Int v fit top f m = m
-field-holds t a old store ws o x Bool v fit top f m = m
-field-holds t a old store ws o x (Ref cap c) v fit top f m =
-    MeetsRef-map store c (LabelFits ws cap) (FieldFits ws o.label cap) v
-    (λ l h. may-hold ws o.label cap l top (field-suits t a old store ws o x cap c fit f) h) m
+field-holds t a old store ws o x ty v fit top f m = type-holds store ws o.label ty v top (λ cap c e r label.
+    let j = judge_headers-field t.classes o.class x f.field (Accepted-parts t a).headers f.found in
+    let h = then-ok (good_type t.classes f.field.ty) _ tt j.passed in
+    let suits = test-ok (suits_field_type f.field.ty j.class.is_tmp) BadType tt h.2 in
+    let one : fit.class ≡ j.class = same_Some fit.class j.class (sym fit.class_is ∙ j.at) in
+    let ordinary : j.class.is_tmp ≡ false = ap (λ (q : Class). q.is_tmp) (sym one) ∙ ordinary-class t.classes store ws o fit r label in
+    suited t.classes f.field.ty cap c (f.type_is ∙ e) (ap (suits_field_type f.field.ty) (sym ordinary) ∙ suits)) m
+
+-- another value in a field that is declared so
+pub field-set : (classes : List Class) (store : List Seen) (ws : List Window) (o : Seen) (fit : ObjectFits classes store ws o) (k : ℕ)
+    (f : FieldOfClass) (v : Val) → slice_get (fields_of classes o.class) k ≡ Some f → MeetsBy store (FieldFits ws o.label) (type_of classes f.ty) v →
+    FieldsMeet classes store (FieldFits ws o.label) (fields_in classes fit.class o) (slice_set o.fields k v)
+field-set classes store ws o fit k f v at m =
+    FieldsMeet-set classes store (FieldFits ws o.label) (fields_in classes fit.class o) o.fields k f v fit.fields
+    (ap (λ q. slice_get q k) (declared-fields classes store ws o fit k f at) ∙ at) m
 
 -- the object that is written owns what it did
 owns-same : (classes : List Class) (o : Seen) (k j : ℕ) (f : FieldOfClass) (old v : Val) → slice_get (fields_of classes o.class) k ≡ Some f →
@@ -124,9 +142,9 @@ pub put-field-is : (classes : List Class) (at : Val) (x : Name) (s : State) (v :
 put-field-is classes at x s v a o e there = rw (e, put_field, there) refl
 
 -- a write of an object of the topmost window, behind other allowed ones
-allowed-then : (s v u : State) (rest : List Item) (a : ℕ) (o n : Seen) → slice_get s.store a ≡ Some o → u.store ≡ slice_set v.store a n →
+pub allowed-then : (s v u : State) (rest : List Item) (a : ℕ) (o n : Seen) → slice_get s.store a ≡ Some o → u.store ≡ slice_set v.store a n →
     IsTop s.windows o.label →
-    Allowed (record s { items = rest }) v → Allowed s u
+    WritesActive (record s { items = rest }) v → WritesActive s u
 allowed-then s v u rest a o n there is top before b w = by (b == a) refl
   where
     top-writable : (ws : List Window) (l : Label) → IsTop ws l → (l ≡ Region (active ws)) ⊎ (l ≡ Temp (top_number ws))
@@ -145,8 +163,8 @@ allowed-then s v u rest a o n there is top before b w = by (b == a) refl
 
 -- the same behind nothing
 pub allowed-set : (s u : State) (a : ℕ) (o n : Seen) → slice_get s.store a ≡ Some o → u.store ≡ slice_set s.store a n → IsTop s.windows o.label →
-    Allowed s u
-allowed-set s u a o n there is top = allowed-then s s u s.items a o n there is top (allowed-same s s refl)
+    WritesActive s u
+allowed-set s u a o n there is top = allowed-then s s u s.items a o n there is top (writes-same s s refl)
 
 -- `q.f = r`, where r is no call
 field-kept : (t : Tree) → Accepted t → (s : State) (line : ℕ) (x : Variable) (f : Name) (fs : List Name) (r : Right) (rest : List Item) →
@@ -172,10 +190,10 @@ field-kept t a s line x f fs r rest d out p at host follows there u below_is g =
     let n : Seen = record host { fields = slice_set host.fields q.field.place g.v } in
     let iso : is_iso (type_of t.classes q.field.field.ty) ≡ false = ap is_iso q.field.type_is ∙ p.not_iso in
     let set = store-set t.classes store (f1 ∷ d.fs) s.windows (length g.after.managers) s.windows_made q.address host n fits there refl refl
-    (λ j. owns-same t.classes host q.field.place j q.field.field q.field.value g.v q.field.field_is iso q.field.value_is)
-    (FieldsMeet-set t.classes store (FieldFits s.windows host.label) (fields_of t.classes host.class)
-    host.fields q.field.place q.field.field g.v object.fields q.field.field_is
-    (subst R (sym q.field.type_is) holds)) in
+    (λ j. ap (option_and_then (region_at store)) (owns-same t.classes host q.field.place j q.field.field q.field.value g.v q.field.field_is iso
+    q.field.value_is))
+    (length-slice_set host.fields q.field.place g.v)
+    (field-set t.classes store s.windows host object q.field.place q.field.field g.v q.field.field_is (subst R (sym q.field.type_is) holds)) in
     let now : put_field t.classes at name g.after g.v ≡ record (g.after) { store = slice_set store q.address (with_field t.classes name g.v host) } =
     put-field-is t.classes at name g.after g.v q.address host q.value there in
     let stored : slice_set store q.address (with_field t.classes name g.v host) ≡ slice_set store q.address n =
@@ -193,8 +211,13 @@ field-kept t a s line x f fs r rest d out p at host follows there u below_is g =
           subst S (sym g.gives.frames) (rw (g.gives.windows, g.gives.items) (inl run)))
           (let S : List Frame → Type 0 = λ z. Data t.classes (slice_set store q.address n) z g.after.windows (length g.after.managers)
           g.after.windows_made in
-          subst S (sym g.gives.frames) (rw (g.gives.windows, g.gives.made) set));
-      allowed = allowed-then s g.after w rest q.address host n q.there refl q.top g.gives.allowed;
+          subst S (sym g.gives.frames) (rw (g.gives.windows, g.gives.made) set))
+          (let B : List Frame → Type 0 = λ z. BridgesFit t.classes (slice_set store q.address n) z g.after.windows in
+          subst B (sym g.gives.frames) (rw (g.gives.windows) (bridges-top t.classes s.store (slice_set store q.address n) d.f f1 d.fs s.windows
+          (classes-then s.store store (slice_set store q.address n) g.gives.classes (classes-set store q.address host n there refl))
+          (named-types d.r.spot.env.entries d.f.locals g.gives.locals d.r.stands.named g.gives.named) d.bridged)));
+      allowed = active-allowed s w (stmt line k) rest d.items_are
+          (allowed-then s g.after w rest q.address host n q.there refl q.top g.gives.allowed);
     })
 
 -- `q.f = r`, where r is no call

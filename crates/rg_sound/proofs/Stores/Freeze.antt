@@ -33,6 +33,7 @@ use Rattle.rg_sound.proofs.Stores.Member.{In, not-among}
 use Rattle.rg_sound.proofs.Stores.Beneath.{region-given, beneath-closed, beneath-start, beneath-from, beneath-above}
 use Rattle.rg_sound.proofs.Stores.FrozenLabel.{frozen_label, frozen-in, frozen-object}
 use Rattle.rg_sound.proofs.Stores.Frozen.{LiesIn, frozen-data}
+use Rattle.rg_sound.proofs.Owners.Bridge.{classes-relabelled}
 
 -- What hangs beneath a region that nothing owns
 module _ (classes : List Class) (store : List Seen) (frames : List Frame) (ws : List Window) (regions made g : ℕ)
@@ -118,6 +119,7 @@ freeze-righted y t s f fs later run top at d target put wanted j typed u h =
       meets = meets;
       fresh = not_iso-fresh t.classes (relabelled rs Frozen s.store) (f1 ∷ fs) (ty.Ref Imm p.class) v refl;
       allowed = allowed-relabelled s after rs Frozen refl;
+      classes = classes-relabelled rs Frozen s.store;
       keeps = keeps-relabelled rs Frozen s.store s.windows (λ q shown. not-among rs q
           (beneath-shut t.classes s.store (f1 ∷ fs) s.windows (length s.managers) s.windows_made w.region k.fits free.1 free.0 q shown));
     } in

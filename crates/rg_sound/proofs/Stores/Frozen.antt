@@ -15,7 +15,7 @@ use Rattle.rg_base.specs.declared.object.Seen.{Seen}
 use Rattle.rg_base.specs.declared.value.Val.{Val}
 use Rattle.rg_base.specs.declared.value.Val.TheVariants as val
 use Rattle.rg_tree.specs.Tree.{Field as FieldOfClass, Class}
-use Rattle.rg_rules.specs.Types.{type_of, fields_of}
+use Rattle.rg_rules.specs.Types.{type_of}
 use Rattle.rg_rules.specs.State.{Local, Frame, Window}
 use Rattle.rg_rules.specs.Regions.{region_of, region_at, owned, among, in_regions, relabelled, relabelled_object}
 use Rattle.rg_rules.specs.Owners.{owned_by_local, owned_by_slot, owned_by_field, owned_in_field, owned_in_frame, leads_into, Parent, Above, direct}
@@ -23,7 +23,7 @@ use Rattle.rg_rules.specs.Owners.{further}
 use Rattle.rg_rules.proofs.Region.{slice_get-relabelled, class-relabelled_object, fields-relabelled_object}
 use Rattle.rg_sound.specs.Windows.{windows_of, windows_from}
 use Rattle.rg_sound.specs.Values.{IsRegion, LabelFits, MeetsBy, ValuesFit}
-use Rattle.rg_sound.specs.Objects.{IsTemp, FieldFits, FieldsMeet, ObjectFits, ObjectsFit}
+use Rattle.rg_sound.specs.Objects.{IsTemp, FieldFits, FieldsMeet, fields_in, ArrayFits, ObjectFits, ObjectsFit}
 use Rattle.rg_sound.specs.OpenRegions.{IsNear, AllOwned}
 use Rattle.rg_sound.specs.Numbers.{LabelGiven}
 use Rattle.rg_sound.proofs.Basics.{none-some}
@@ -33,7 +33,8 @@ use Rattle.rg_sound.proofs.Values.Label.{windows_of-open, windows_from-open}
 use Rattle.rg_sound.proofs.Owners.Open.{IsOpenIn}
 use Rattle.rg_sound.proofs.Values.Deliver.{pop-leads}
 use Rattle.rg_sound.proofs.Stores.Member.{In, not-among}
-use Rattle.rg_sound.proofs.Stores.Beneath.{owned_slot, Closed}
+use Rattle.rg_sound.proofs.Values.Declared.{owned_slot, owned-declared, declared-same}
+use Rattle.rg_sound.proofs.Stores.Beneath.{Closed}
 use Rattle.rg_sound.proofs.Stores.FrozenLabel.{frozen_label, frozen-in, frozen-out, in-or-out, frozen-object, label-fits, temp-fits}
 use Rattle.rg_sound.proofs.Stores.FrozenLabel.{region-fits}
 use Rattle.rg_sound.proofs.Stores.FrozenLabel.{frozen-fits}
@@ -248,16 +249,23 @@ module _ (rs : List ℕ) where
       temp-back Frozen b h = h
 
       -- the fields of an object that was at an address
-      fields-fit : (b : ℕ) (o : Seen) → slice_get store b ≡ Some o → ObjectFits classes store ws o →
-          FieldsMeet classes (relabelled rs Frozen store) (FieldFits ws (frozen_label rs o.label)) (fields_of classes o.class) o.fields
+      fields-fit : (b : ℕ) (o : Seen) → slice_get store b ≡ Some o → (f : ObjectFits classes store ws o) →
+          FieldsMeet classes (relabelled rs Frozen store) (FieldFits ws (frozen_label rs o.label)) (fields_in classes f.class o) o.fields
       fields-fit b o e f = by_label o.label refl f.fields
         where
           slot : (l : Label) → o.label ≡ l → (IsTemp l ⊎ IsRegion l) → (k r : ℕ) →
-              option_and_then (region_at store) (owned_slot classes (fields_of classes o.class) o.fields k) ≡ Some r →
+              option_and_then (region_at store) (owned_slot classes (fields_in classes f.class o) o.fields k) ≡ Some r →
               leads_into classes store frames (Field b k) ≡ Some r
           slot l g h k r z = ap (λ (q : Option Seen). option_and_then (region_at store)
-              (option_and_then (λ (y : Seen). owned_by_field classes y k) q)) e ∙ ap (option_and_then (region_at store)) (owns l g h) ∙ z
+              (option_and_then (λ (y : Seen). owned_by_field classes y k) q)) e ∙ ap (option_and_then (region_at store)) (owns l g h) ∙ of_class
+              (owned_slot classes (fields_in classes f.class o) o.fields k) refl z
             where
+              of_class : (x : Option ℕ) → owned_slot classes (fields_in classes f.class o) o.fields k ≡ x →
+                  option_and_then (region_at store) x ≡ Some r →
+                  option_and_then (region_at store) (owned_by_slot classes o k) ≡ Some r
+              of_class None e y = none-some y
+              of_class (Some a) e y = ap (option_and_then (region_at store)) (owned-declared classes store ws o f k a e) ∙ y
+
               owns : (l : Label) → o.label ≡ l → (IsTemp l ⊎ IsRegion l) → owned_by_field classes o k ≡ owned_by_slot classes o k
               owns (Region q) g h = let P : Label → Type 0 = λ y. ◌≡◌ {A = Option ℕ}
                   (elim y [ Region r ↦ owned_by_slot classes o k | Temp t ↦ owned_by_slot classes o k | Frozen ↦ None ]) (owned_by_slot classes o k)
@@ -272,19 +280,19 @@ module _ (rs : List ℕ) where
 
           -- where the object isn't frozen, what it owns isn't either
           outside : (l : Label) → o.label ≡ l → (IsTemp l ⊎ IsRegion l) → ((q : ℕ) → region_of l ≡ Some q → In q rs → ⊥) →
-              (k r : ℕ) → option_and_then (region_at store) (owned_slot classes (fields_of classes o.class) o.fields k) ≡ Some r → In r rs → ⊥
+              (k r : ℕ) → option_and_then (region_at store) (owned_slot classes (fields_in classes f.class o) o.fields k) ≡ Some r → In r rs → ⊥
           outside l g h out k r z i =
               let lies = owners (Field b k) r i (slot l g h k r z) in
               out lies.0 (sym (ap (option_and_then (λ (q : Seen). region_of q.label)) e ∙ ap region_of g) ∙ lies.1) lies.2
 
-          by_label : (l : Label) → o.label ≡ l → FieldsMeet classes store (FieldFits ws l) (fields_of classes o.class) o.fields →
-              FieldsMeet classes (relabelled rs Frozen store) (FieldFits ws (frozen_label rs l)) (fields_of classes o.class) o.fields
+          by_label : (l : Label) → o.label ≡ l → FieldsMeet classes store (FieldFits ws l) (fields_in classes f.class o) o.fields →
+              FieldsMeet classes (relabelled rs Frozen store) (FieldFits ws (frozen_label rs l)) (fields_in classes f.class o) o.fields
           by_label (Region r) g m = elim (in-or-out rs r) [
             | inl inside ↦
-                (let P : Label → Type 0 = λ q. FieldsMeet classes (relabelled rs Frozen store) (FieldFits ws q) (fields_of classes o.class)
+                (let P : Label → Type 0 = λ q. FieldsMeet classes (relabelled rs Frozen store) (FieldFits ws q) (fields_in classes f.class o)
                 o.fields in
                 subst P (sym (frozen-in rs r inside)) (fields-frozen (FieldFits ws (Region r)) (FieldFits ws Frozen) (λ q. In q rs)
-                (fields_of classes o.class) o.fields
+                (fields_in classes f.class o) o.fields
                 (λ k q z. closed r q inside (record {
                   object = b;
                   field = k;
@@ -294,19 +302,19 @@ module _ (rs : List ℕ) where
                 }))
                 (λ k q down h. frozen-fits rs r inside k q down h) m))
             | inr out ↦
-                (let P : Label → Type 0 = λ q. FieldsMeet classes (relabelled rs Frozen store) (FieldFits ws q) (fields_of classes o.class)
+                (let P : Label → Type 0 = λ q. FieldsMeet classes (relabelled rs Frozen store) (FieldFits ws q) (fields_in classes f.class o)
                 o.fields in
                 subst P (sym (frozen-out rs r out)) (fields-frozen (FieldFits ws (Region r)) (FieldFits ws (Region r)) (λ q. In q rs → ⊥)
-                (fields_of classes o.class) o.fields
+                (fields_in classes f.class o) o.fields
                 (λ k q z. outside (Region r) g (inr (r, refl)) (λ y x i. let Q : ℕ → Type 0 = λ z. In z rs in
                 out (subst Q (sym (same_Some r y x)) i)) k q z)
                 (λ k q away h. region-fits rs ws shut r out k q away h) m))
           ]
-          by_label (Temp n) g m = fields-frozen (FieldFits ws (Temp n)) (FieldFits ws (Temp n)) (λ q. In q rs → ⊥) (fields_of classes o.class)
+          by_label (Temp n) g m = fields-frozen (FieldFits ws (Temp n)) (FieldFits ws (Temp n)) (λ q. In q rs → ⊥) (fields_in classes f.class o)
               o.fields
               (λ k q z. outside (Temp n) g (inl tt) (λ y x i. none-some x) k q z)
               (λ k q away h. temp-fits rs ws shut (windows_from n ws) (λ y. windows_from-open n ws y) k q away h) m
-          by_label Frozen g m = fields-frozen (FieldFits ws Frozen) (FieldFits ws Frozen) (λ q. Unit {0}) (fields_of classes o.class) o.fields
+          by_label Frozen g m = fields-frozen (FieldFits ws Frozen) (FieldFits ws Frozen) (λ q. Unit {0}) (fields_in classes f.class o) o.fields
               (λ k q z. tt) (λ k q y h. ap (frozen_label rs) h) m
 
       pub frozen-data : Data classes (relabelled rs Frozen store) frames ws regions made
@@ -338,15 +346,18 @@ module _ (rs : List ℕ) where
               let fields_are : n.fields ≡ o.0.fields = ap (λ (q : Seen). q.fields) o.2 ∙ fields-relabelled_object rs Frozen o.0 in
               let label : n.label ≡ frozen_label rs o.0.label = ap (λ (q : Seen). q.label) o.2 ∙ frozen-object rs o.0 in
               let m = fields-fit b o.0 o.1 f in
-              let P : Label → Type 0 = λ q. FieldsMeet classes (relabelled rs Frozen store) (FieldFits ws q) (fields_of classes n.class) n.fields in
-              let Q : ℕ → Type 0 = λ q. FieldsMeet classes (relabelled rs Frozen store) (FieldFits ws (frozen_label rs o.0.label))
-              (fields_of classes q) n.fields in
+              let P : Label → Type 0 = λ q. FieldsMeet classes (relabelled rs Frozen store) (FieldFits ws q) (fields_in classes f.class n) n.fields in
+              let Q : List FieldOfClass → Type 0 = λ q. FieldsMeet classes (relabelled rs Frozen store) (FieldFits ws (frozen_label rs o.0.label))
+              q n.fields in
               let R : List Val → Type 0 = λ q. FieldsMeet classes (relabelled rs Frozen store) (FieldFits ws (frozen_label rs o.0.label))
-              (fields_of classes o.0.class) q in
+              (fields_in classes f.class o.0) q in
+              let A : List Val → Type 0 = λ q. ArrayFits f.class f.class.element (length q) in
               let T : Label → Type 0 = λ q. IsTemp q ↔ IsTrue f.class.is_tmp in
               record {
                 class = f.class;
                 class_is = ap (slice_get classes) class ∙ f.class_is;
                 label_is = subst T (sym label) (temp-back o.0.label f.class.is_tmp f.label_is);
-                fields = subst P (sym label) (subst Q (sym class) (subst R (sym fields_are) m));
+                fields = subst P (sym label)
+                    (subst Q (sym (declared-same classes f.class o.0 n class (ap (λ q. length q) fields_are))) (subst R (sym fields_are) m));
+                array = subst A (sym fields_are) f.array;
               }

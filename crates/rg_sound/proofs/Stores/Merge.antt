@@ -13,14 +13,14 @@ use Rattle.rg_base.specs.declared.object.Seen.{Seen}
 use Rattle.rg_base.specs.declared.value.Val.{Val}
 use Rattle.rg_base.specs.declared.value.Val.TheVariants as val
 use Rattle.rg_tree.specs.Tree.{Field as FieldOfClass, Class}
-use Rattle.rg_rules.specs.Types.{type_of, fields_of}
+use Rattle.rg_rules.specs.Types.{type_of}
 use Rattle.rg_rules.specs.State.{Frame, Window}
 use Rattle.rg_rules.specs.Regions.{region_of, region_at, in_regions, relabelled, relabelled_object}
 use Rattle.rg_rules.specs.Owners.{owned_by_slot, owned_by_field, owned_in_field, owned_in_frame, leads_into, Parent, Above, direct, further}
 use Rattle.rg_rules.proofs.Region.{slice_get-relabelled, class-relabelled_object, fields-relabelled_object}
 use Rattle.rg_sound.specs.Windows.{windows_of}
 use Rattle.rg_sound.specs.Values.{LabelFits, MeetsBy, ValuesFit}
-use Rattle.rg_sound.specs.Objects.{IsTemp, FieldFits, FieldsMeet, ObjectsFit}
+use Rattle.rg_sound.specs.Objects.{IsTemp, FieldFits, FieldsMeet, fields_in, ArrayFits, ObjectsFit}
 use Rattle.rg_sound.specs.OpenRegions.{IsNear, AllOwned}
 use Rattle.rg_sound.specs.Numbers.{LabelGiven}
 use Rattle.rg_sound.proofs.Basics.{none-some}
@@ -28,6 +28,7 @@ use Rattle.rg_sound.proofs.Owners.Data.{Data}
 use Rattle.rg_sound.proofs.Values.Label.{windows_of-open}
 use Rattle.rg_sound.proofs.Owners.Open.{IsOpenIn, above-open, open-owned, above-trans}
 use Rattle.rg_sound.proofs.Stores.MergeLabel.{merged_label, kept_by, label-fits, field-fits}
+use Rattle.rg_sound.proofs.Values.Declared.{declared-same}
 
 -- objects with the labels behind the merge
 abbrev pub Relabels : (gone into : ℕ) → List Seen → List Seen → Type 0
@@ -307,18 +308,21 @@ module _ (classes : List Class) (store : List Seen) (frames : List Frame) (ws : 
           let fields_are : n.fields ≡ o.0.fields = ap (λ (q : Seen). q.fields) o.2 ∙ fields-relabelled_object (g ∷ []) (Region a) o.0 in
           let label : n.label ≡ merged_label g a o.0.label = ap (λ (q : Seen). q.label) o.2 ∙ relabelled-label g a o.0 in
           let m = fields-merged classes store (relabelled (g ∷ []) (Region a) store) g a (FieldFits ws o.0.label)
-          (FieldFits ws (merged_label g a o.0.label)) (fields_of classes o.0.class) o.0.fields forth
+          (FieldFits ws (merged_label g a o.0.label)) (fields_in classes f.class o.0) o.0.fields forth
           (λ k l h. field-fits g a ws closed o.0.label k l h) f.fields in
-          let P : Label → Type 0 = λ q. FieldsMeet classes (relabelled (g ∷ []) (Region a) store) (FieldFits ws q) (fields_of classes n.class)
+          let P : Label → Type 0 = λ q. FieldsMeet classes (relabelled (g ∷ []) (Region a) store) (FieldFits ws q) (fields_in classes f.class n)
           n.fields in
-          let Q : ℕ → Type 0 = λ q. FieldsMeet classes (relabelled (g ∷ []) (Region a) store) (FieldFits ws (merged_label g a o.0.label))
-          (fields_of classes q) n.fields in
+          let Q : List FieldOfClass → Type 0 = λ q. FieldsMeet classes (relabelled (g ∷ []) (Region a) store)
+          (FieldFits ws (merged_label g a o.0.label)) q n.fields in
           let R : List Val → Type 0 = λ q. FieldsMeet classes (relabelled (g ∷ []) (Region a) store) (FieldFits ws (merged_label g a o.0.label))
-          (fields_of classes o.0.class) q in
+          (fields_in classes f.class o.0) q in
+          let A : List Val → Type 0 = λ q. ArrayFits f.class f.class.element (length q) in
           let T : Label → Type 0 = λ q. IsTemp q ↔ IsTrue f.class.is_tmp in
           record {
             class = f.class;
             class_is = ap (slice_get classes) class ∙ f.class_is;
             label_is = subst T (sym label) (temp-back o.0.label f.class.is_tmp f.label_is);
-            fields = subst P (sym label) (subst Q (sym class) (subst R (sym fields_are) m));
+            fields = subst P (sym label)
+                (subst Q (sym (declared-same classes f.class o.0 n class (ap (λ q. length q) fields_are))) (subst R (sym fields_are) m));
+            array = subst A (sym fields_are) f.array;
           }

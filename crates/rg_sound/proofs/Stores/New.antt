@@ -1,6 +1,7 @@
 -- A store with one object more, which owns nothing.
 use Rattle.std.proofs.Common.{◌≡◌, refl, sym, ◌∙◌, ap, subst, inl, inr, ◌↔◌, ℕ, zero, suc, ◌<◌, ◌≤◌, Bool as Truth, true, false}
-use Rattle.std.proofs.Common.{if◌then◌else◌, List, [], ◌∷◌, ◌++◌, length, map, Option, Some, None, option_and_then, slice_get, arith, IsTrue}
+use Rattle.std.proofs.Common.{if◌then◌else◌, List, [], ◌∷◌, ◌++◌, length, map, replicate, Option, Some, None, option_and_then, slice_get, arith}
+use Rattle.std.proofs.Common.{IsTrue}
 use Rattle.std.proofs.lemmas.List.{length-append}
 use Rattle.std.proofs.lemmas.Option.{slice_get_within, slice_get_past, same_Some}
 use Rattle.std.proofs.lemmas.Bool.{cases_eq}
@@ -18,11 +19,11 @@ use Rattle.rg_rules.specs.Capabilities.{is_iso}
 use Rattle.rg_rules.specs.Types.{class_number, type_of, fields_of}
 use Rattle.rg_rules.specs.State.{Local, Frame, Window, frame_at}
 use Rattle.rg_rules.specs.Regions.{region_of, region_at, address, owned_as}
-use Rattle.rg_rules.specs.RightSides.{opening_value, new_object, made}
+use Rattle.rg_rules.specs.RightSides.{opening_value, opening_element, new_object, new_array, made}
 use Rattle.rg_rules.specs.Owners.{owned_by_local, owned_by_slot, owned_by_field, owned_in_field, owned_in_frame, leads_into, Parent, Above, direct}
 use Rattle.rg_rules.specs.Owners.{further}
 use Rattle.rg_sound.specs.Values.{MeetsBy, ValuesFit}
-use Rattle.rg_sound.specs.Objects.{IsTemp, FieldFits, FieldsMeet, ObjectFits, ObjectsFit}
+use Rattle.rg_sound.specs.Objects.{IsTemp, FieldFits, FieldsMeet, element_field, fields_declared, fields_in, ArrayFits, ObjectFits, ObjectsFit}
 use Rattle.rg_sound.specs.OpenRegions.{IsNear}
 use Rattle.rg_sound.specs.Numbers.{LabelGiven}
 use Rattle.rg_sound.proofs.Basics.{none-some}
@@ -30,6 +31,9 @@ use Rattle.rg_sound.proofs.Owners.Owner.{get-snoc-other, frame_at-top, frame_at-
 use Rattle.rg_sound.proofs.Owners.Owner.{open-come}
 use Rattle.rg_sound.proofs.Owners.Data.{Data, Nothing, Within, meets-within}
 use Rattle.rg_sound.proofs.Stores.Replace.{KeepsObjects, values-kept, FieldsMeet-kept}
+use Rattle.rg_base.specs.declared.limits.TheConstants.{ARRAY_SIZE}
+use Rattle.rg_sound.proofs.Values.Declared.{ArrayClass, no-fields}
+use Rattle.std.proofs.lemmas.List.{length-replicate}
 
 -- a variable's value lies in the store
 local-within : (store : List Seen) (ws : List Window) (fs : List Frame) → ValuesFit store ws fs → (n i : ℕ) (f : Frame) (l : Local) →
@@ -52,16 +56,24 @@ field-within classes store F (f ∷ fs) (w ∷ vs) h zero v e =
     let P : Val → Type 0 = λ q. Within (length store) q in subst P (same_Some w v e) (meets-within store F (type_of classes f.ty) w h.0)
 field-within classes store F (f ∷ fs) (w ∷ vs) h (suc k) v e = field-within classes store F fs vs h.1 k v e
 
+-- what a field starts with meets its type
+opening-one : (classes : List Class) (store : List Seen) (F : Cap → Label → Type 0) (w : WrittenTy) →
+    MeetsBy store F (type_of classes w) (opening_value w)
+opening-one classes store F int = tt
+opening-one classes store F bool = tt
+opening-one classes store F (ref k x) = tt
+
 -- fields at their start meet their types
 pub opening-meets : (classes : List Class) (store : List Seen) (F : Cap → Label → Type 0) (fs : List FieldOfClass) →
     FieldsMeet classes store F fs (map (λ (f : FieldOfClass). opening_value f.ty) fs)
 opening-meets classes store F [] = tt
-opening-meets classes store F (f ∷ fs) = (one f.ty, opening-meets classes store F fs)
-  where
-    one : (w : WrittenTy) → MeetsBy store F (type_of classes w) (opening_value w)
-    one int = tt
-    one bool = tt
-    one (ref k x) = tt
+opening-meets classes store F (f ∷ fs) = (opening-one classes store F f.ty, opening-meets classes store F fs)
+
+-- and so do elements
+elements-open : (classes : List Class) (store : List Seen) (F : Cap → Label → Type 0) (w : WrittenTy) (n : ℕ) →
+    FieldsMeet classes store F (replicate n (element_field w)) (replicate n (opening_value w))
+elements-open classes store F w zero = tt
+elements-open classes store F w (suc n) = (opening-one classes store F w, elements-open classes store F w n)
 
 pub opening-address : (fs : List FieldOfClass) (j : ℕ) (v : Val) → slice_get (map (λ (f : FieldOfClass). opening_value f.ty) fs) j ≡ Some v →
     address v ≡ None
@@ -99,6 +111,54 @@ new-owns classes x label j = by_label label (slot (slice_get (fields_of classes 
         ]) None
     by_label (Region r) e = e
     by_label (Temp n) e = e
+    by_label Frozen e = refl
+
+-- an object that may be made of a class, with a label: it owns nothing
+pub record IsMade (classes : List Class) (c : Class) (class : ℕ) (label : Label) (o : Seen) : Type 0 where
+  pub class_is : o.class ≡ class
+  pub label_is : o.label ≡ label
+  pub owns : (j : ℕ) → owned_by_field classes o j ≡ None
+  pub fields : (S : List Seen) (ws : List Window) → FieldsMeet classes S (FieldFits ws o.label) (fields_in classes c o) o.fields
+  pub array : ArrayFits c c.element (length o.fields)
+
+pub object-made : (classes : List Class) (x : Name) (c : Class) (label : Label) → c.element ≡ None →
+    IsMade classes c (class_number classes x) label (new_object classes x label)
+object-made classes x c label none = record {
+  class_is = refl;
+  label_is = refl;
+  owns = new-owns classes x label;
+  fields = λ S ws. (let P : Option WrittenTy → Type 0 = λ q. FieldsMeet classes S (FieldFits ws label)
+      (fields_declared classes (class_number classes x) q (length (new_object classes x label).fields)) (new_object classes x label).fields in
+      subst P (sym none) (opening-meets classes S (FieldFits ws label) (fields_of classes (class_number classes x))));
+  array = (let A : Option WrittenTy → Type 0 = λ q. ArrayFits c q (length (new_object classes x label).fields) in subst A (sym none) tt);
+}
+
+pub array-made : (classes : List Class) (x : Name) (c : Class) (n : ℕ) (label : Label) (w : WrittenTy) →
+    slice_get classes (class_number classes x) ≡ Some c →
+    c.element ≡ Some w → ArrayClass c w → n ≤ ARRAY_SIZE → IsMade classes c (class_number classes x) label (new_array classes x c n label)
+array-made classes x c n label w at is a few =
+    let o = new_array classes x c n label in
+    let values : o.fields ≡ replicate n (opening_value w) = ap (λ q. replicate n (opening_element q)) is in
+    let long : length o.fields ≡ n = length-replicate n (opening_element c.element) in
+    let none = no-fields classes (class_number classes x) c at a.members in
+    record {
+      class_is = refl;
+      label_is = refl;
+      owns = λ j. by_label label (ap (λ (q : List FieldOfClass). option_and_then (λ (f : FieldOfClass). option_and_then (owned_as classes f)
+          (slice_get o.fields j)) (slice_get q j)) none);
+      fields = λ S ws. (let P : Option WrittenTy → Type 0 = λ q. FieldsMeet classes S (FieldFits ws label)
+          (fields_declared classes (class_number classes x) q (length o.fields)) o.fields in
+          let Q : List Val → Type 0 = λ q. FieldsMeet classes S (FieldFits ws label) (replicate (length o.fields) (element_field w)) q in
+          let R : ℕ → Type 0 = λ q. FieldsMeet classes S (FieldFits ws label) (replicate q (element_field w))
+          (replicate n (opening_value w)) in
+          subst P (sym is) (subst Q (sym values) (subst R (sym long) (elements-open classes S (FieldFits ws label) w n))));
+      array = (let A : Option WrittenTy → Type 0 = λ q. ArrayFits c q (length o.fields) in
+          let B : ℕ → Type 0 = λ q. q ≤ ARRAY_SIZE in subst A (sym is) (a.members, a.not_iso, subst B (sym long) few));
+    }
+  where
+    by_label : (l : Label) {x : Option ℕ} → x ≡ None → ◌≡◌ {A = Option ℕ} (elim l [ Region r ↦ x | Temp t ↦ x | Frozen ↦ None ]) None
+    by_label (Region r) e = e
+    by_label (Temp t) e = e
     by_label Frozen e = refl
 
 -- a store with one object more, which owns nothing, has the same owner references
@@ -151,7 +211,7 @@ leads-more classes store frames ws regions made o d owns p = same p
         slot-in p e None v g k = none-some k
         slot-in p e (Some f) None g k = none-some k
         slot-in p e (Some f) (Some v) g k = owned-in (is_iso (type_of classes f.ty)) v b
-            (field-within classes store _ (fields_of classes p.class) p.fields (d.objects a p e).fields j v g) k
+            (field-within classes store _ (fields_in classes (d.objects a p e).class p) p.fields (d.objects a p e).fields j v g) k
 
         by_label : (p : Seen) → slice_get store a ≡ Some p → (l : Label) →
             (elim l [ Region r ↦ owned_by_slot classes p j | Temp n ↦ owned_by_slot classes p j | Frozen ↦ None ]) ≡ Some b → b < length store
@@ -173,9 +233,9 @@ pub store-more : (classes : List Class) (store : List Seen) (frames : List Frame
     Data classes store frames ws regions made → regions ≤ more →
     LabelGiven more made o.label → ((j : ℕ) → owned_by_field classes o j ≡ None) → (c : Class) → slice_get classes o.class ≡ Some c →
     (IsTemp o.label ↔ IsTrue c.is_tmp) →
-    ((S : List Seen) → FieldsMeet classes S (FieldFits ws o.label) (fields_of classes o.class) o.fields) →
+    ((S : List Seen) → FieldsMeet classes S (FieldFits ws o.label) (fields_in classes c o) o.fields) → ArrayFits c c.element (length o.fields) →
     Data classes (store ++ o ∷ []) frames ws more made
-store-more classes store frames ws regions more made o d bound given owns c class_is label_is meets = record {
+store-more classes store frames ws regions more made o d bound given owns c class_is label_is meets few = record {
   values = values-kept store (store ++ o ∷ []) ws frames keeps d.values;
   objects = objects;
   opened = open-come classes store (store ++ o ∷ []) frames frames Nothing come ws d.opened (all ws) near;
@@ -242,6 +302,7 @@ store-more classes store frames ws regions more made o d bound given owns c clas
           class = f.class;
           class_is = f.class_is;
           label_is = f.label_is;
-          fields = FieldsMeet-kept classes store (store ++ o ∷ []) (FieldFits ws p.label) (fields_of classes p.class) p.fields keeps f.fields;
+          fields = FieldsMeet-kept classes store (store ++ o ∷ []) (FieldFits ws p.label) (fields_in classes f.class p) p.fields keeps f.fields;
+          array = f.array;
         })
-        (record { class = c; class_is = class_is; label_is = label_is; fields = meets (store ++ o ∷ []) })
+        (record { class = c; class_is = class_is; label_is = label_is; fields = meets (store ++ o ∷ []); array = few })

@@ -14,15 +14,16 @@ use Rattle.rg_base.specs.declared.object.Seen.{Seen}
 use Rattle.rg_base.specs.declared.value.Val.{Val}
 use Rattle.rg_base.specs.declared.value.Val.TheVariants.{Nil, Int as IntVal, Bool as BoolVal, Obj}
 use Rattle.rg_tree.specs.Tree.{Field as FieldOfClass, Class}
-use Rattle.rg_rules.specs.Types.{type_of, fields_of}
+use Rattle.rg_rules.specs.Types.{type_of}
 use Rattle.rg_rules.specs.State.{Frame, Window}
 use Rattle.rg_rules.specs.Regions.{region_of, region_at}
 use Rattle.rg_sound.specs.Windows.{windows_of}
 use Rattle.rg_sound.specs.Values.{LabelFits, MeetsRef, MeetsBy, ValuesFit}
-use Rattle.rg_sound.specs.Objects.{IsTemp, FieldFits, FieldsMeet, ObjectFits, ObjectsFit}
+use Rattle.rg_sound.specs.Objects.{IsTemp, FieldFits, FieldsMeet, fields_in, ArrayFits, ObjectFits, ObjectsFit}
 use Rattle.rg_sound.specs.OpenRegions.{IsNear}
 use Rattle.rg_sound.specs.Numbers.{LabelGiven}
 use Rattle.rg_sound.proofs.Owners.Owner.{get-set, get-set-other}
+use Rattle.rg_sound.proofs.Values.Declared.{declared-same}
 
 -- each object is still there, with its class and its label
 abbrev pub KeepsObjects : List Seen → List Seen → Type 0
@@ -115,24 +116,28 @@ module _ (store : List Seen) (a : ℕ) (o n : Seen) (there : slice_get store a �
   replaced-labels regions made labels b p e = replaced-each b p e (λ q. LabelGiven regions made q.label) (λ h. labels b p h)
       (let P : Label → Type 0 = λ q. LabelGiven regions made q in subst P (sym label) (labels a o there))
 
-  pub replaced-objects : (classes : List Class) (ws : List Window) → ObjectsFit classes store ws →
-      FieldsMeet classes store (FieldFits ws o.label) (fields_of classes o.class) n.fields → ObjectsFit classes (slice_set store a n) ws
-  replaced-objects classes ws objects meets b p e =
+  pub replaced-objects : (classes : List Class) (ws : List Window) (objects : ObjectsFit classes store ws) → length n.fields ≡ length o.fields →
+      FieldsMeet classes store (FieldFits ws o.label) (fields_in classes (objects a o there).class o) n.fields →
+      ObjectsFit classes (slice_set store a n) ws
+  replaced-objects classes ws objects long meets b p e =
       replaced-each b p e (λ q. ObjectFits classes (slice_set store a n) ws q)
       (λ h. let f = objects b p h in record {
         class = f.class;
         class_is = f.class_is;
         label_is = f.label_is;
-        fields = FieldsMeet-kept classes store (slice_set store a n) (FieldFits ws p.label) (fields_of classes p.class) p.fields replaced-keeps
+        fields = FieldsMeet-kept classes store (slice_set store a n) (FieldFits ws p.label) (fields_in classes f.class p) p.fields replaced-keeps
             f.fields;
+        array = f.array;
       })
       (let f = objects a o there in
-      let m = FieldsMeet-kept classes store (slice_set store a n) (FieldFits ws o.label) (fields_of classes o.class) n.fields replaced-keeps meets in
+      let m = FieldsMeet-kept classes store (slice_set store a n) (FieldFits ws o.label) (fields_in classes f.class o) n.fields replaced-keeps meets
+      in
       record {
         class = f.class;
         class_is = ap (slice_get classes) class ∙ f.class_is;
         label_is = (let P : Label → Type 0 = λ l. IsTemp l ↔ IsTrue f.class.is_tmp in subst P (sym label) f.label_is);
-        fields = (let P : Label → Type 0 = λ l. FieldsMeet classes (slice_set store a n) (FieldFits ws l) (fields_of classes n.class) n.fields in
-            let Q : ℕ → Type 0 = λ c. FieldsMeet classes (slice_set store a n) (FieldFits ws o.label) (fields_of classes c) n.fields in
-            subst P (sym label) (subst Q (sym class) m));
+        fields = (let P : Label → Type 0 = λ l. FieldsMeet classes (slice_set store a n) (FieldFits ws l) (fields_in classes f.class n) n.fields in
+            let Q : List FieldOfClass → Type 0 = λ q. FieldsMeet classes (slice_set store a n) (FieldFits ws o.label) q n.fields in
+            subst P (sym label) (subst Q (sym (declared-same classes f.class o n class long)) m));
+        array = (let A : ℕ → Type 0 = λ q. ArrayFits f.class f.class.element q in subst A (sym long) f.array);
       })

@@ -24,15 +24,17 @@ use Rattle.rg_rules.proofs.Expression.{against-ok, against-below, judge_expr-bel
 use Rattle.rg_rules.proofs.Point.{spot-advance}
 use Rattle.rg_rules.proofs.Step.{stepped-went}
 use Rattle.rg_sound.specs.OpenRegions.{AllOwned}
+use Rattle.rg_sound.specs.Bridges.{BridgesFit}
 use Rattle.rg_sound.specs.Frames.{Named, FramesFit, Running, Stands}
 use Rattle.rg_sound.specs.Fit.{Fit}
 use Rattle.rg_sound.specs.Laws.{KindKeeps}
 use Rattle.rg_sound.proofs.Frames.Advance.{running-first, running-advance}
-use Rattle.rg_sound.proofs.Frames.Quiet.{running-do, allowed-over}
+use Rattle.rg_sound.proofs.Frames.Quiet.{running-do, active-allowed, allowed-over}
 use Rattle.rg_sound.proofs.Frames.Named.{Named-set_in}
 use Rattle.rg_sound.proofs.Frames.JudgeRight.{judge_right-stays}
 use Rattle.rg_sound.proofs.Frames.Judge.{judge_declare-parts, judge_assign-parts, judge_assign-stays}
 use Rattle.rg_sound.proofs.Owners.Data.{Data, fit-data, data-fit}
+use Rattle.rg_sound.proofs.Owners.Bridge.{types-snoc, named-types, bridges-top}
 use Rattle.rg_sound.proofs.Frames.Stands.{stands-stays}
 use Rattle.rg_sound.proofs.Frames.Top.{Top, running-top}
 use Rattle.rg_sound.proofs.Values.Right.{Gives, expression-gives, quiet-gives}
@@ -46,6 +48,8 @@ pub record Doing (t : Tree) (s : State) (line : ℕ) (k : StmtKind) (later : Lis
   pub r : Running t f fs s.windows (Do (stmt line k) ∷ later)
   pub top : Top t f fs s.windows (Do (stmt line k) ∷ later) r
   pub fits : Data t.classes s.store (f ∷ fs) s.windows (length s.managers) s.windows_made
+  pub bridged : BridgesFit t.classes s.store (f ∷ fs) s.windows
+  pub items_are : s.items ≡ Do (stmt line k) ∷ later
 
 pub doing : (t : Tree) → Accepted t → (s : State) (line : ℕ) (k : StmtKind) (later : List Item) → s.items ≡ Do (stmt line k) ∷ later → Fit t s →
     Doing t s line k later
@@ -65,8 +69,9 @@ doing t a s line k later is fit = by_frames s.frames refl
           frames = e;
           r = r;
           top = running-top t a s.store f fs s.windows (Do (stmt line k) ∷ later) r (subst R e fit.opened.owned);
-          fits =
-              subst S e (fit-data t s fit);
+          fits = subst S e (fit-data t s fit);
+          bridged = (let B : List Frame → Type 0 = λ q. BridgesFit t.classes s.store q s.windows in subst B e fit.bridges);
+          items_are = is;
         }
 
 -- the statement that a frame does has no fault
@@ -182,8 +187,13 @@ declare-by r gives is_below x ty line t s u rest a fit is went =
           (let Q : List Frame → Type 0 = λ q. FramesFit t q (g.after.windows) (g.after.items) in
           subst Q (sym frames) (rw (g.gives.windows, g.gives.items) (inl run)))
           (let Q : List Frame → Type 0 = λ q. Data t.classes g.after.store q g.after.windows (length g.after.managers) g.after.windows_made in
-          subst Q (sym frames) (rw (g.gives.windows, g.gives.made) (subst P declared fits)));
-      allowed = allowed-over s0 s g.after (add_local (Some x) (type_of t.classes ty) g.after g.v) refl refl refl g.gives.allowed;
+          subst Q (sym frames) (rw (g.gives.windows, g.gives.made) (subst P declared fits)))
+          (let B : List Frame → Type 0 = λ q. BridgesFit t.classes g.after.store q g.after.windows in
+          subst B (sym frames) (rw (g.gives.windows) (bridges-top t.classes s.store g.after.store d.f f' d.fs s.windows g.gives.classes
+          (types-snoc d.f.locals g.gives.locals l (named-types d.r.spot.env.entries d.f.locals g.gives.locals d.r.stands.named g.gives.named))
+          d.bridged)));
+      allowed = active-allowed s (add_local (Some x) (type_of t.classes ty) g.after g.v) (stmt line (declare x ty r)) rest is
+          (allowed-over s0 s g.after (add_local (Some x) (type_of t.classes ty) g.after g.v) refl refl refl g.gives.allowed);
     })
 
 -- `x = r`, where r is no call
@@ -211,8 +221,13 @@ assign-by r gives is_below x line t s u rest a fit is went =
           (let Q : List Frame → Type 0 = λ q. FramesFit t q (g.after.windows) (g.after.items) in
           subst Q (sym frames) (rw (g.gives.windows, g.gives.items) (inl run)))
           (let Q : List Frame → Type 0 = λ q. Data t.classes g.after.store q g.after.windows (length g.after.managers) g.after.windows_made in
-          subst Q (sym frames) (rw (g.gives.windows, g.gives.made) fits));
-      allowed = allowed-over s0 s g.after (put_local x g.after g.v) refl refl refl g.gives.allowed;
+          subst Q (sym frames) (rw (g.gives.windows, g.gives.made) fits))
+          (let B : List Frame → Type 0 = λ q. BridgesFit t.classes g.after.store q g.after.windows in
+          subst B (sym frames) (rw (g.gives.windows) (bridges-top t.classes s.store g.after.store d.f f' d.fs s.windows g.gives.classes
+          (named-types d.r.spot.env.entries d.f.locals (set_in x g.v g.gives.locals) d.r.stands.named
+          (Named-set_in x g.v d.r.spot.env.entries g.gives.locals g.gives.named)) d.bridged)));
+      allowed = active-allowed s (put_local x g.after g.v) (stmt line k) rest is
+          (allowed-over s0 s g.after (put_local x g.after g.v) refl refl refl g.gives.allowed);
     })
 
 pub value-below : (e : Expr) → RightBelow (value e)

@@ -10,7 +10,7 @@ use Rattle.rg_base.specs.declared.object.Seen.{Seen}
 use Rattle.rg_base.specs.declared.value.Val.{Val}
 use Rattle.rg_base.specs.declared.value.Val.TheVariants.{Nil}
 use Rattle.rg_base.specs.declared.outcome.Trap.{Trap}
-use Rattle.rg_tree.specs.Tree.{Variable, Expr, number, boolean, nil, path, is_nil, neg, not, binary, Class, Tree}
+use Rattle.rg_tree.specs.Tree.{Variable, Expr, nil, path, Class, Tree}
 use Rattle.rg_rules.specs.Capabilities.{is_iso}
 use Rattle.rg_rules.specs.Environment.{Env, Entry, gone, entry_of, same_variable, seen_type, available, is_ready, used, marked, marked_entry}
 use Rattle.rg_rules.specs.Expressions.{Judged, nil_type, judge_path, judge_expr}
@@ -28,8 +28,8 @@ use Rattle.rg_sound.proofs.Basics.{none-some}
 use Rattle.rg_sound.proofs.Frames.Named.{Named-iso, first-at}
 use Rattle.rg_sound.proofs.Frames.Entry.{Stays-distinct, Distinct}
 use Rattle.rg_sound.proofs.Frames.JudgeRight.{judge_expr-stays}
-use Rattle.rg_sound.proofs.Values.Value.{value-meets, below-meets}
-use Rattle.rg_sound.proofs.Values.Right.{IsoExpr, is_variable, is_none, iso-expr, below-iso}
+use Rattle.rg_sound.proofs.Values.Value.{value-meets, element-not_iso, below-meets}
+use Rattle.rg_sound.proofs.Values.Right.{IsoExpr, is_variable, is_none, is_element, iso-expr, below-iso}
 use Rattle.rg_sound.proofs.Values.Argument.{View, view-next, take-was}
 
 -- The environment behind an argument
@@ -229,7 +229,10 @@ arg-then t store f fs ws env ty ts a as_ v vs j view fit typed value rest =
             rest.own,
           );
         }
-    by_expr _ h same iso m = elim h [ ]
+    by_expr _ (is_element q i) same iso m =
+        let no = element-not_iso t.classes store ws (length fs) env f.locals fit view.sees (Some ty) q i j v
+        (ap (judge_expr t.classes env (Some ty)) same ∙ typed) (ap (value_of t.classes store f.locals) same ∙ value) in
+        let both : true ≡ false = sym iso ∙ no in grind arith
 
     by_type : (b : Truth) → is_iso j.ty ≡ b → Meets store ws ty v → ArgsFacts t store f fs ws env (ty ∷ ts) (a ∷ as_) (v ∷ vs)
     by_type false n m =

@@ -40,6 +40,8 @@ use Rattle.rg_sound.proofs.Frames.Top.{running-top}
 use Rattle.rg_sound.proofs.Values.Right.{Gives}
 use Rattle.rg_sound.proofs.Values.Local.{declare-data, declare-stands, assign-data}
 use Rattle.rg_sound.proofs.Values.Assign.{Doing}
+use Rattle.rg_sound.specs.Bridges.{BridgesFit}
+use Rattle.rg_sound.proofs.Owners.Bridge.{KeepsClasses, types-same, types-snoc, named-types, bridges-top}
 
 -- a value goes into a new variable
 pub declare-finish : (t : Tree) (s : State) (line : ℕ) (x : Name) (ty : Written) (r : Right) (rest : List Item)
@@ -70,6 +72,9 @@ declare-finish t s line x ty r rest d after jty v g b =
     (let Q : List Frame → Type 0 = λ q. FramesFit t q (after.windows) (after.items) in subst Q (sym frames) (rw (g.windows, g.items) (inl run)))
     (let Q : List Frame → Type 0 = λ q. Data t.classes after.store q after.windows (length after.managers) after.windows_made in
     subst Q (sym frames) (rw (g.windows, g.made) fits))
+    (let B : List Frame → Type 0 = λ q. BridgesFit t.classes after.store q after.windows in
+    subst B (sym frames) (rw (g.windows) (bridges-top t.classes s.store after.store d.f f' d.fs s.windows g.classes
+    (types-snoc d.f.locals g.locals l (named-types d.r.spot.env.entries d.f.locals g.locals d.r.stands.named g.named)) d.bridged)))
 
 -- a value goes into a variable that is there
 pub assign-finish : (t : Tree) (s : State) (line : ℕ) (x : Variable) (r : Right) (rest : List Item)
@@ -93,12 +98,17 @@ assign-finish t s line x r rest d after jty v g out p b =
     (let Q : List Frame → Type 0 = λ q. FramesFit t q (after.windows) (after.items) in subst Q (sym frames) (rw (g.windows, g.items) (inl run)))
     (let Q : List Frame → Type 0 = λ q. Data t.classes after.store q after.windows (length after.managers) after.windows_made in
     subst Q (sym frames) (rw (g.windows, g.made) fits))
+    (let B : List Frame → Type 0 = λ q. BridgesFit t.classes after.store q after.windows in
+    subst B (sym frames) (rw (g.windows) (bridges-top t.classes s.store after.store d.f f' d.fs s.windows g.classes
+    (named-types d.r.spot.env.entries d.f.locals (set_in x v g.locals) d.r.stands.named
+    (Named-set_in x v d.r.spot.env.entries g.locals g.named)) d.bridged)))
 
 -- a value goes nowhere
 pub drop-finish : (t : Tree) (s : State) (line : ℕ) (c : Call) (rest : List Item) (d : Doing t s line (call c) rest) → (after : State) →
     after.frames ≡ d.f ∷ d.fs → after.windows ≡ s.windows →
-    after.items ≡ rest → Data t.classes after.store (d.f ∷ d.fs) after.windows (length after.managers) after.windows_made → Fit t after
-drop-finish t s line c rest d after frames windows items fits =
+    after.items ≡ rest → Data t.classes after.store (d.f ∷ d.fs) after.windows (length after.managers) after.windows_made →
+    KeepsClasses s.store after.store → Fit t after
+drop-finish t s line c rest d after frames windows items fits classes =
     let run : Running t d.f d.fs s.windows rest = running-advance t d.f d.f d.fs s.windows line (call c) rest d.r d.top.right refl refl
     (λ last at out judged ends.
     let h = at_line-ok at (judge_call_alone t.classes d.r.spot.env c) out judged in
@@ -111,6 +121,8 @@ drop-finish t s line c rest d after frames windows items fits =
     (let Q : List Frame → Type 0 = λ q. FramesFit t q after.windows after.items in subst Q (sym frames) (rw (windows, items) (inl run)))
     (let Q : List Frame → Type 0 = λ q. Data t.classes after.store q after.windows (length after.managers) after.windows_made in
     subst Q (sym frames) fits)
+    (let B : List Frame → Type 0 = λ q. BridgesFit t.classes after.store q after.windows in
+    subst B (sym frames) (rw windows (bridges-top t.classes s.store after.store d.f d.f d.fs s.windows classes (types-same d.f.locals) d.bridged)))
 
 -- The frame beneath
 
@@ -118,8 +130,9 @@ drop-finish t s line c rest d after frames windows items fits =
 abbrev pub waits-doing : (t : Tree) → Accepted t → (s : State) (b : Body) (f : Frame) (fs : List Frame) (own under : List Window)
     (mine rest : List Item) (callee : Body) (target : Target) →
     (w : Waits t.classes b f (length fs) own mine callee target) → Beneath t fs under rest b f.target → s.windows ≡ own ++ under →
-    Data t.classes s.store (f ∷ fs) s.windows (length s.managers) s.windows_made → s.frames ≡ f ∷ fs → Doing t s w.line w.kind (mine ++ rest)
-waits-doing t a s b f fs own under mine rest callee target w beneath windows fits frames =
+    Data t.classes s.store (f ∷ fs) s.windows (length s.managers) s.windows_made → s.frames ≡ f ∷ fs →
+    BridgesFit t.classes s.store (f ∷ fs) s.windows → s.items ≡ Do (stmt w.line w.kind) ∷ (mine ++ rest) → Doing t s w.line w.kind (mine ++ rest)
+waits-doing t a s b f fs own under mine rest callee target w beneath windows fits frames bridged items =
     let r : Running t f fs s.windows (Do (stmt w.line w.kind) ∷ (mine ++ rest)) = record {
       body = b;
       own = own;
@@ -144,6 +157,8 @@ waits-doing t a s b f fs own under mine rest callee target w beneath windows fit
       top = running-top t a s.store f fs s.windows (Do (stmt w.line w.kind) ∷ (mine ++ rest))
           r fits.opened.owned;
       fits = fits;
+      bridged = bridged;
+      items_are = items;
     }
 
 -- what leads from an elder frame leads so without the topmost one

@@ -58,6 +58,8 @@ use Rattle.rg_sound.proofs.Owners.Entrance.{items_of-append}
 use Rattle.rg_sound.proofs.Values.Argument.{View, AllSources, clear-all}
 use Rattle.rg_sound.proofs.Values.Call.{AllReady, ArgsMeet, args-facts}
 use Rattle.rg_sound.proofs.Values.Loose.{Apart, Loose, loose-args}
+use Rattle.rg_sound.proofs.Owners.Bridge.{classes-same, named-types, bridges-top, bridges-push}
+use Rattle.rg_sound.proofs.Frames.Named.{Named-cleared}
 
 -- Values that are put one after another
 
@@ -290,7 +292,10 @@ call-kept t a s line k rest d target c j calls typed u h =
     let fits = params-put t.classes s.store (record e0 { locals = l0 ∷ [] }) (f' ∷ d.fs) s.windows (length s.managers)
     s.windows_made m.0.params vs.0 first all elsewhere facts.meets loose1 in
     let run = new-runs t a s.windows rest fo.0.class c.method m.0 found target self.0 vs.0 (f' ∷ d.fs) beneath in
-    rw (← is) (record { fit = data-fit t w (inl run) fits; allowed = allowed-same s w refl })
+    let bridged = bridges-push t.classes s.store g (f' ∷ d.fs) s.windows (bridges-top t.classes s.store s.store d.f f' d.fs s.windows
+    (classes-same s.store) (named-types d.r.spot.env.entries d.f.locals (cleared xs d.f.locals) d.r.stands.named
+    (Named-cleared xs d.r.spot.env.entries d.f.locals d.r.stands.named)) d.bridged) in
+    rw (← is) (record { fit = data-fit t w (inl run) fits bridged; allowed = allowed-same s w refl })
   where
     same_number : (a b : ℕ) → (a == b) ≡ true → a ≡ b
     same_number a b e = grind arith

@@ -7,7 +7,7 @@ use Rattle.rg_base.specs.declared.object.Seen.{Seen}
 use Rattle.rg_base.specs.declared.words.Manager.{Manager}
 use Rattle.rg_base.specs.declared.value.Val.{Val}
 use Rattle.rg_tree.specs.Tree.{Name, Variable, Ty as Written, Call, Right, value, new, new_tmp, new_iso, freeze, merge, read, more, result_of}
-use Rattle.rg_tree.specs.Tree.{StmtKind, declare, assign, call, return, stmt, Path, Method, Class, Tree}
+use Rattle.rg_tree.specs.Tree.{StmtKind, declare, assign, assign_element, call, swap, branch, while, enter, print, collect, return, stmt, Path, Method, Class, Tree}
 use Rattle.rg_rules.specs.Capabilities.{below}
 use Rattle.rg_rules.specs.Types.{type_of}
 use Rattle.rg_rules.specs.Environment.{Env, empty}
@@ -31,14 +31,14 @@ use Rattle.rg_sound.specs.Fit.{Fit}
 use Rattle.rg_sound.specs.Laws.{StaysFit, ReturnKeeps, BackKeeps}
 use Rattle.rg_sound.proofs.Basics.{none-some}
 use Rattle.rg_sound.proofs.Frames.Advance.{running-first}
-use Rattle.rg_sound.proofs.Frames.Quiet.{allowed-same, went_is}
+use Rattle.rg_sound.proofs.Frames.Quiet.{writes-same, allowed-same, went_is}
 use Rattle.rg_sound.proofs.Frames.Judge.{judge_declare-parts, judge_assign-parts}
 use Rattle.rg_sound.proofs.Values.Value.{below-meets}
 use Rattle.rg_sound.proofs.Frames.SpotEnd.{spot-end}
 use Rattle.rg_sound.proofs.Frames.SpotReturn.{spot-return}
 use Rattle.rg_sound.proofs.Owners.Owner.{AllOwners, AllOwners-map}
 use Rattle.rg_sound.proofs.Owners.Data.{Data, fit-data, data-fit, pop-frame}
-use Rattle.rg_sound.proofs.Frames.Stands.{IsElsewhere}
+use Rattle.rg_sound.proofs.Frames.Stands.{IsElsewhere, Grounded, owned-grounded}
 use Rattle.rg_sound.proofs.Frames.Top.{Top, running-top}
 use Rattle.rg_sound.proofs.Values.Right.{OwnsFreshAs, Gives, expression-gives, below-iso}
 use Rattle.rg_sound.proofs.Values.Local.{fresh-as}
@@ -46,6 +46,8 @@ use Rattle.rg_sound.proofs.Values.Assign.{Doing, doing, doing-judges}
 use Rattle.rg_sound.proofs.Frames.End.{running-item}
 use Rattle.rg_sound.proofs.Values.Deliver.{declare-finish, assign-finish, drop-finish, waits-doing, pop-leads, elsewhere-leads, no-own}
 use Rattle.rg_sound.proofs.Values.Deliver.{call-result}
+use Rattle.rg_sound.specs.Bridges.{BridgesFit}
+use Rattle.rg_sound.proofs.Owners.Bridge.{KeepsClasses, classes-same, AllCut, beneath-cut, pop-keeps, bridges-end}
 
 -- the call of a right side
 right-call : (r : Right) (x y : Target) (made : Call) → with_target x (right_call r) ≡ Some (made, y) → (r ≡ result_of made) × (x ≡ y)
@@ -122,9 +124,10 @@ deliver-fits t s line (assign p r) rest d callee target c ty gives after v g fra
         (g : Gives t (record s { items = rest }) d.f d.fs d.r.spot.env after ty v) → after.frames ≡ d.f ∷ d.fs →
         Data t.classes after.store (d.f ∷ d.fs) after.windows (length after.managers) after.windows_made → Fit t (deliver target after v)
     by_path p d c g frames fits = by_fields p.base p.fields d c g frames fits
+deliver-fits t s line (assign_element q i r) rest d callee target c ty gives after v g frames fits = none-some c.made_is
 deliver-fits t s line (call m) rest d callee target c ty gives after v g frames fits =
     let pair : (m, Drops) ≡ (c.made, target) = let h = c.made_is in grind arith in
-    let n = drop-finish t s line m rest d after frames g.windows g.items fits in
+    let n = drop-finish t s line m rest d after frames g.windows g.items fits g.classes in
     let R : Target → Type 0 = λ q. Fit t (deliver q after v) in subst R (ap (λ (q : Call × Target). q.1) pair) n
 deliver-fits t s line _ rest d callee target c ty gives after v g frames fits = none-some c.made_is
 
@@ -132,15 +135,15 @@ deliver-fits t s line _ rest d callee target c ty gives after v g frames fits = 
 back-fits : (t : Tree) (s : State) (line : ℕ) (k : StmtKind) (rest : List Item) (d : Doing t s line k rest) (callee : Body) (target : Target)
     (c : Calls t.classes d.r.spot.env k callee target) →
     callee.result ≡ None → (after : State) → after.frames ≡ d.f ∷ d.fs → after.windows ≡ s.windows → after.items ≡ rest →
-    Data t.classes after.store (d.f ∷ d.fs) after.windows (length after.managers) after.windows_made → Fit t after
-back-fits t s line (declare x w r) rest d callee target c nothing after frames windows items fits =
+    Data t.classes after.store (d.f ∷ d.fs) after.windows (length after.managers) after.windows_made → KeepsClasses s.store after.store → Fit t after
+back-fits t s line (declare x w r) rest d callee target c nothing after frames windows items fits classes =
     let is = right-call r (Declares x (type_of t.classes w)) target c.made c.made_is in
     let j = doing-judges t s line (declare x w r) rest d in
     let p = judge_declare-parts t.classes d.r.spot.env j.out x w r (at_line-ok line (judge_declare t.classes d.r.spot.env x w r) j.out j.judged) in
     let P : Right → Type 0 = λ q. judge_right t.classes d.r.spot.env p.declared q ≡ Ok p.judged in
     result-none t.classes d.r.spot.env p.declared c.made p.judged (subst P is.0 p.typed)
     (λ k h. called-result t.classes d.r.spot.env (declare x w r) callee target c c.made refl k h ∙ nothing)
-back-fits t s line (assign p r) rest d callee target c nothing after frames windows items fits = by_path p d c
+back-fits t s line (assign p r) rest d callee target c nothing after frames windows items fits classes = by_path p d c
   where
     by_fields : (x : Variable) (fs : List Name) (d : Doing t s line (assign (record { base = x; fields = fs }) r) rest) →
         (c : Calls t.classes d.r.spot.env (assign (record { base = x; fields = fs }) r) callee target) → Fit t after
@@ -156,9 +159,9 @@ back-fits t s line (assign p r) rest d callee target c nothing after frames wind
 
     by_path : (p : Path) (d : Doing t s line (assign p r) rest) → (c : Calls t.classes d.r.spot.env (assign p r) callee target) → Fit t after
     by_path p d c = by_fields p.base p.fields d c
-back-fits t s line (call m) rest d callee target c nothing after frames windows items fits =
-    drop-finish t s line m rest d after frames windows items fits
-back-fits t s line _ rest d callee target c nothing after frames windows items fits = none-some c.made_is
+back-fits t s line (call m) rest d callee target c nothing after frames windows items fits classes =
+    drop-finish t s line m rest d after frames windows items fits classes
+back-fits t s line _ rest d callee target c nothing after frames windows items fits classes = none-some c.made_is
 
 -- the topmost frame goes; it has no window of its own
 pop-data : (t : Tree) (s : State) (f : Frame) (fs : List Frame) (under : List Window) (regions : ℕ) → AllOwners under (IsElsewhere (length fs)) →
@@ -168,6 +171,17 @@ pop-data t s f fs under regions elsewhere windows d =
     let P : List Window → Type 0 = λ q. AllOwners q (IsElsewhere (length fs)) in
     pop-frame t.classes s.store f fs s.windows regions s.windows_made d
     (AllOwners-map s.windows (IsElsewhere (length fs)) _ (elsewhere-leads t.classes s.store f fs) (subst P (sym windows) elsewhere))
+
+pop-bridges : (t : Tree) (s : State) (f : Frame) (fs : List Frame) (under : List Window) (items : List Item) (b : Body) (target : Target) →
+    Beneath t fs under items b target → Grounded s.windows → AllOwners under (IsElsewhere (length fs)) → s.windows ≡ under →
+    BridgesFit t.classes s.store (f ∷ fs) s.windows → BridgesFit t.classes s.store fs s.windows
+pop-bridges t s f fs under items b target beneath ground elsewhere windows h =
+    let P : List Window → Type 0 = λ q. AllOwners q (IsElsewhere (length fs)) in
+    let Q : List Window → Type 0 = λ q. Grounded q in
+    let R : List Window → Type 0 = λ q. AllCut (length fs) 0 q in
+    bridges-end t.classes s.store (f ∷ fs) fs s.windows (pop-keeps f fs s.windows
+    (subst R (sym windows) (beneath-cut t fs under items b target beneath (subst Q windows ground) (length fs) 0 (omega arith)))
+    (subst P (sym windows) elsewhere)) h
 
 result-of-main : {B : Type 0} (t : Tree) (b : Body) (ty : Ty) → b ≡ main_body t → b.result ≡ Some ty → B
 result-of-main t b ty e h = none-some (sym (ap (λ (q : Body). q.result) e) ∙ h)
@@ -219,6 +233,10 @@ return-keeps e line t s u rest a f is went =
         let fits = subst T same (subst R managers (subst Q store eg.fits)) in
         let U : List Frame → Type 0 = λ q. AllOwners d.r.under (IsElsewhere (length q)) in
         let popped = pop-data t s f1 (g ∷ gs) d.r.under (length s.managers) (subst U same d.top.elsewhere) windows fits in
+        let C : List Frame → Type 0 = λ q. BridgesFit t.classes s.store (d.f ∷ q) s.windows in
+        let bridged = pop-bridges t s d.f (g ∷ gs) d.r.under d.r.rest d.r.body d.f.target b
+        (owned-grounded t.classes s.store (d.f ∷ d.fs) s.windows d.fits.opened.owned) (subst U same d.top.elsewhere) windows (subst C same d.bridged)
+        in
         let below_ty = judge_expr-below t.classes d.r.spot.env ty e j typed in
         let V : List Seen → Type 0 = λ q. Meets q s.windows ty p.0.1 in
         let meets = subst V store (below-meets p.0.0.store s.windows j.ty ty p.0.1 below_ty eg.meets) in
@@ -232,7 +250,7 @@ return-keeps e line t s u rest a f is went =
         elim (b.7) [
           | inl w ↦
               let s1 : State = record s { frames = g ∷ gs; items = Do (stmt w.line w.kind) ∷ (b.3 ++ b.4) } in
-              let dd = waits-doing t a s1 b.0 g gs b.1 b.2 b.3 b.4 d.r.body d.f.target w b.8 (windows ∙ b.5) popped refl in
+              let dd = waits-doing t a s1 b.0 g gs b.1 b.2 b.3 b.4 d.r.body d.f.target w b.8 (windows ∙ b.5) popped refl bridged refl in
               let after : State = record s { frames = g ∷ gs; items = b.3 ++ b.4 } in
               let gv : Gives t (record s1 { items = b.3 ++ b.4 }) g gs w.spot.env after ty p.0.1 = record {
                 locals = g.locals;
@@ -244,8 +262,9 @@ return-keeps e line t s u rest a f is went =
                 fits = popped;
                 meets = meets;
                 fresh = fresh_now;
-                allowed = allowed-same (record s1 { items = b.3 ++ b.4 }) after refl;
+                allowed = writes-same (record s1 { items = b.3 ++ b.4 }) after refl;
                 keeps = λ b o h i. h;
+                classes = classes-same s.store;
               } in
               let fit = deliver-fits t s1 w.line w.kind (b.3 ++ b.4) dd d.r.body d.f.target w.calls ty gives after p.0.1 gv refl popped in
               let Z : List Item → Type 0 = λ q. Fit t (deliver d.f.target (record s { frames = g ∷ gs; items = q }) p.0.1) in
@@ -317,27 +336,31 @@ back-keeps t s u rest a f is went =
 
     under-frames : (f : Frame) (fs : List Frame) → s.frames ≡ f ∷ fs → (r : Running t f fs s.windows (Back ∷ rest)) →
         Top t f fs s.windows (Back ∷ rest) r →
-        Data t.classes s.store (f ∷ fs) s.windows (length s.managers) s.windows_made → s.windows ≡ r.under → rest ≡ r.rest → (mine : List Item) →
+        Data t.classes s.store (f ∷ fs) s.windows (length s.managers) s.windows_made →
+        BridgesFit t.classes s.store (f ∷ fs) s.windows → s.windows ≡ r.under → rest ≡ r.rest → (mine : List Item) →
         r.body.after ≡ Back ∷ mine →
         (gs : List Frame) → fs ≡ gs → Fit t (record s { items = rest; frames = without_top (f ∷ gs) })
-    under-frames f fs at r top d windows others mine after [] same =
+    under-frames f fs at r top d bridges windows others mine after [] same =
         let P : List Frame → Type 0 = λ q. Beneath t q r.under r.rest r.body f.target in
         let b = subst P same r.beneath in back-body t r.body mine b.0 after
-    under-frames f fs at r top d windows others mine after (g ∷ gs) same =
+    under-frames f fs at r top d bridges windows others mine after (g ∷ gs) same =
         let P : List Frame → Type 0 = λ q. Beneath t q r.under r.rest r.body f.target in
         let b = subst P same r.beneath in
         let T : List Frame → Type 0 = λ q. Data t.classes s.store (f ∷ q) s.windows (length s.managers) s.windows_made in
         let U : List Frame → Type 0 = λ q. AllOwners r.under (IsElsewhere (length q)) in
         let popped = pop-data t s f (g ∷ gs) r.under (length s.managers) (subst U same top.elsewhere) windows (subst T same d) in
+        let C : List Frame → Type 0 = λ q. BridgesFit t.classes s.store (f ∷ q) s.windows in
+        let bridged = pop-bridges t s f (g ∷ gs) r.under r.rest r.body f.target b
+        (owned-grounded t.classes s.store (f ∷ fs) s.windows d.opened.owned) (subst U same top.elsewhere) windows (subst C same bridges) in
         let rest_is : rest ≡ b.3 ++ b.4 = others ∙ b.6 in
         let u : State = record s { items = rest; frames = g ∷ gs } in
         elim (b.7) [
           | inl w ↦
               let m = back-method t.classes r.body w.calls.class w.calls.called mine w.calls.callee_is after in
               let s1 : State = record s { frames = g ∷ gs; items = Do (stmt w.line w.kind) ∷ (b.3 ++ b.4) } in
-              let dd = waits-doing t a s1 b.0 g gs b.1 b.2 b.3 b.4 r.body f.target w b.8 (windows ∙ b.5) popped refl in
-              back-fits t s1 w.line w.kind (b.3 ++ b.4) dd r.body f.target w.calls m.0 u refl refl rest_is popped
-          | inr w ↦ data-fit t u (inl (main-runs g gs b.1 b.2 b.3 b.4 b.0 r.body f.target (windows ∙ b.5) rest_is w b.8)) popped
+              let dd = waits-doing t a s1 b.0 g gs b.1 b.2 b.3 b.4 r.body f.target w b.8 (windows ∙ b.5) popped refl bridged refl in
+              back-fits t s1 w.line w.kind (b.3 ++ b.4) dd r.body f.target w.calls m.0 u refl refl rest_is popped (classes-same s.store)
+          | inr w ↦ data-fit t u (inl (main-runs g gs b.1 b.2 b.3 b.4 b.0 r.body f.target (windows ∙ b.5) rest_is w b.8)) popped bridged
         ]
 
     ends : (fs : List Frame) (us : List Window) (later mine : List Item) (b : Body) (target : Target) → Beneath t fs us later b target →
@@ -356,6 +379,7 @@ back-keeps t s u rest a f is went =
         let r = running-item t g fs s.windows Back rest (subst Q is (subst P at f.frames)) in
         let R : List Frame → Type 0 = λ q. AllOwned t.classes s.store q s.windows in
         let S : List Frame → Type 0 = λ q. Data t.classes s.store q s.windows (length s.managers) s.windows_made in
+        let T : List Frame → Type 0 = λ q. BridgesFit t.classes s.store q s.windows in
         let top = running-top t a s.store g fs s.windows (Back ∷ rest) r (subst R at f.opened.owned) in
         let first = running-first t g fs s.windows Back rest r in
         let e = spot-end t.classes r.body.result r.body.front top.right.out r.body.block r.body.after [] r.point r.spot Back r.more
@@ -366,6 +390,7 @@ back-keeps t s u rest a f is went =
               let own = no-own (length fs) g.locals r.spot.enters r.own r.stands.entered o.enters_are in
               let windows : s.windows ≡ r.under = r.windows_are ∙ ap (λ q. q ++ r.under) own in
               let none_more : r.more ≡ [] = ends fs r.under r.rest r.more r.body g.target r.beneath o.after_is in
-              under-frames g fs at r top (subst S at (fit-data t s f)) windows (first.1 ∙ ap (λ q. q ++ r.rest) none_more) r.more o.after_is fs refl
+              under-frames g fs at r top (subst S at (fit-data t s f)) (subst T at f.bridges) windows (first.1 ∙ ap (λ q. q ++ r.rest) none_more)
+              r.more o.after_is fs refl
           | inr o ↦ absurd o.closes
         ]

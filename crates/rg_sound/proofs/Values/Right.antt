@@ -13,11 +13,12 @@ use Rattle.rg_base.specs.declared.object.Seen.{Seen}
 use Rattle.rg_base.specs.declared.value.Val.{Val}
 use Rattle.rg_base.specs.declared.value.Val.TheVariants.{Nil}
 use Rattle.rg_base.specs.declared.outcome.Trap.{Trap}
-use Rattle.rg_tree.specs.Tree.{Name, Variable, Expr, number, boolean, nil, path, is_nil, neg, not, binary, Class, Tree}
+use Rattle.rg_tree.specs.Tree.{Name, Variable, Expr, number, boolean, nil, path, is_nil, neg, not, binary, size, element, Path}
+use Rattle.rg_tree.specs.Tree.{Class, Tree}
 use Rattle.rg_rules.specs.Answers.{◌>>=◌, Answer}
 use Rattle.rg_rules.specs.Capabilities.{below, below_cap, is_iso, is_iso_cap}
 use Rattle.rg_rules.specs.Environment.{Env, Entry, Readiness, ready, gone, lent, entry_of, seen_type, available, is_ready, is_lent, used}
-use Rattle.rg_rules.specs.Paths.{walk}
+use Rattle.rg_rules.specs.Paths.{walk, walk_array}
 use Rattle.rg_rules.specs.Items.{Item}
 use Rattle.rg_rules.specs.Expressions.{Judged, against, judge_path, judge_is_nil, Operators, arithmetic, order, equality, logic, among, result_type}
 use Rattle.rg_rules.specs.Expressions.{judge_expr}
@@ -33,12 +34,13 @@ use Rattle.rg_rules.proofs.Step.{computed-ok}
 use Rattle.rg_sound.specs.Windows.{windows_of}
 use Rattle.rg_sound.specs.Values.{Meets}
 use Rattle.rg_sound.specs.Frames.{Named, Running}
-use Rattle.rg_sound.specs.Writes.{Allowed}
+use Rattle.rg_sound.specs.Writes.{WritesActive}
 use Rattle.rg_sound.proofs.Basics.{none-some}
-use Rattle.rg_sound.proofs.Frames.Quiet.{allowed-same}
+use Rattle.rg_sound.proofs.Frames.Quiet.{writes-same}
 use Rattle.rg_sound.proofs.Frames.Named.{Named-iso, Named-cleared, first-at}
-use Rattle.rg_sound.proofs.Values.Value.{value-meets}
+use Rattle.rg_sound.proofs.Values.Value.{value-meets, element-not_iso}
 use Rattle.rg_sound.proofs.Owners.Owner.{leads-top}
+use Rattle.rg_sound.proofs.Owners.Bridge.{KeepsClasses, classes-same}
 use Rattle.rg_sound.proofs.Owners.Receiver.{IsTop}
 use Rattle.rg_sound.proofs.Owners.Data.{Data, NotOwner, Puts, puts-set, leads-put, put-local}
 use Rattle.rg_sound.proofs.Frames.Top.{Top, top-sees, top-not_owner}
@@ -63,8 +65,9 @@ pub record Gives (t : Tree) (s : State) (f : Frame) (fs : List Frame) (env : Env
   pub fits : Data t.classes after.store (record f { locals = locals } ∷ fs) s.windows (length after.managers) s.windows_made
   pub meets : Meets after.store s.windows ty v
   pub fresh : OwnsFreshAs t.classes after.store (record f { locals = locals } ∷ fs) ty v
-  pub allowed : Allowed s after
+  pub allowed : WritesActive s after
   pub keeps : KeepsTop s.windows s.store after.store
+  pub classes : KeepsClasses s.store after.store
 
 -- only an `iso` type stands where an `iso` one is expected
 pub below-iso : (t w : Ty) → below t w ≡ true → is_iso t ≡ is_iso w
@@ -124,12 +127,13 @@ nil-fresh classes store frames t r h = none-some (sym (by (is_iso t)) ∙ h)
     by true = refl
     by false = refl
 
--- which expressions have an `iso` type: a variable, and nil
+-- which expressions have an `iso` type: a variable, nil, and an element where elements may be `iso`
 pub data IsoExpr (classes : List Class) (env : Env) : Expr → Judged → Type 0 where
   is_variable : {x : Variable} {j : Judged} → (e : Entry) → entry_of env x ≡ Some e → is_iso e.ty ≡ true → is_ready e.readiness ≡ true →
       j.ty ≡ seen_type env e →
       IsoExpr classes env (path (record { base = x; fields = [] })) j
   is_none : {j : Judged} → IsoExpr classes env nil j
+  is_element : {j : Judged} → (q : Path) (e : Expr) → IsoExpr classes env (element q e) j
 
 against-iso : (w : Option Ty) (t : Ty) (env : Env) (j : Judged) → against w t env ≡ Ok j → is_iso j.ty ≡ true → is_iso t ≡ true
 against-iso w t env j h i = ap is_iso (sym (against-ok w t env j h).ty) ∙ i
@@ -184,6 +188,9 @@ iso-expr classes env w (not a) j h i =
 iso-expr classes env w (binary op a b) j h i =
     let p = binary-ok classes env w (among op) a b j h in
     let no : false ≡ true = sym (result-not_iso (among op)) ∙ against-iso w (result_type (among op)) p.r.env j p.last i in grind arith
+iso-expr classes env w (size q) j h i =
+    let p = then-ok (walk_array classes env q.base q.fields) _ j h in let no : false ≡ true = against-iso w Int env j p.2 i in grind arith
+iso-expr classes env w (element q e) j h i = is_element q e
 
 -- an `iso` variable that is used up: what it owned is owned nowhere, and it may go wherever its type is
 pub record Taken (t : Tree) (store : List Seen) (f : Frame) (fs : List Frame) (ws : List Window) (regions made : ℕ) (x : Variable) : Type 0 where
@@ -283,8 +290,9 @@ expression-gives t s f fs later r top at d w e j typed p h =
       fits = now;
       meets = m;
       fresh = fresh;
-      allowed = allowed-same s (record s { frames = record f { locals = cleared (uses f.locals e) f.locals } ∷ fs }) refl;
+      allowed = writes-same s (record s { frames = record f { locals = cleared (uses f.locals e) f.locals } ∷ fs }) refl;
       keeps = λ b o h i. h;
+      classes = classes-same s.store;
     })
 
     none_used : uses f.locals e ≡ [] → p.0 ≡ record s { frames = record f { locals = cleared (uses f.locals e) f.locals } ∷ fs } →
@@ -324,7 +332,11 @@ expression-gives t s f fs later r top at d w e j typed p h =
         k.unowned n (ap (λ (b : Truth). option_and_then (region_at s.store) (if b then address (value_in f.locals x) else None)) (sym iso) ∙ h) in
         quiet state m (subst P (sym one) (Named-cleared (x ∷ []) r.spot.env.entries f.locals r.stands.named)) (subst Q (sym one) k.fits)
         (subst R (sym one) (subst S is fresh))
-    by_expr _ h same iso state value m = elim h [ ]
+    by_expr _ (is_element q i) same iso state value m =
+        let no = element-not_iso t.classes s.store s.windows (length fs) r.spot.env f.locals d.objects (top-sees t s.store f fs s.windows later r top
+        d.values)
+        w q i j p.1 (ap (judge_expr t.classes r.spot.env w) same ∙ typed) (ap (value_of t.classes s.store f.locals) same ∙ value) in
+        let both : true ≡ false = sym iso ∙ no in grind arith
 
     by_type : (b : Truth) → is_iso j.ty ≡ b → p.0 ≡ record s { frames = record f { locals = cleared (uses f.locals e) f.locals } ∷ fs } →
         value_of t.classes s.store f.locals e ≡ Ok p.1 → Meets s.store s.windows j.ty p.1 → Gives t s f fs r.spot.env p.0 j.ty p.1
@@ -350,7 +362,8 @@ quiet-gives t s after f fs env ty v at named same d n m =
       fits = d;
       meets = m;
       fresh = not_iso-fresh t.classes s.store (f ∷ fs) ty v n;
-      allowed = allowed-same s (record s { input = after.input }) refl;
+      allowed = writes-same s (record s { input = after.input }) refl;
       keeps =
           λ b o h i. h;
+      classes = classes-same s.store;
     })

@@ -1,12 +1,14 @@
 -- What an expression computes to meets its type.
-use Rattle.std.proofs.Common.{◌≡◌, refl, sym, ◌∙◌, ap, subst, ℕ, suc, ◌==◌, ℤ, ◌+ℤ◌, ◌-ℤ◌, ◌*ℤ◌, neg_ℤ, int_div, int_rem, Bool as Truth, true, false}
+use Rattle.std.proofs.Common.{◌≡◌, refl, sym, ◌∙◌, ap, subst, ℕ, suc, ◌==◌, ◌<◌, nat_lt, length, ℤ, pos, negsuc, ◌+ℤ◌, ◌-ℤ◌, ◌*ℤ◌, neg_ℤ, int_div}
+use Rattle.std.proofs.Common.{int_rem, Bool as Truth, true, false}
 use Rattle.std.proofs.Common.{not as negated, if◌then◌else◌, bytes_eq, List, [], ◌∷◌, find, Option, Some, None, ok_or, option_map, unwrap_or}
 use Rattle.std.proofs.Common.{slice_get, Ok, Err, IfSome, arith}
 use Rattle.std.proofs.lemmas.Bool.{and_parts}
 use Rattle.rg_base.specs.declared.words.Cap.{Cap}
+use Rattle.rg_base.specs.declared.words.Cap.TheVariants.{Mut, Tmp, Paused, Imm, Iso}
 use Rattle.rg_base.specs.declared.ty.Ty.{Ty}
 use Rattle.rg_base.specs.declared.ty.Ty.TheVariants.{Int, Bool, Ref}
-use Rattle.rg_base.specs.declared.fault.Code.TheVariants.{Unknown, Capability}
+use Rattle.rg_base.specs.declared.fault.Code.TheVariants.{Unknown, Mismatch, Capability}
 use Rattle.rg_base.specs.declared.object.Label.{Label}
 use Rattle.rg_base.specs.declared.object.Seen.{Seen}
 use Rattle.rg_base.specs.declared.value.Val.{Val}
@@ -15,25 +17,27 @@ use Rattle.rg_base.specs.declared.outcome.Trap.TheVariants as trap
 use Rattle.rg_base.specs.Input.{in_range}
 use Rattle.rg_tree.specs.declared.rows.BinOp.{BinOp}
 use Rattle.rg_tree.specs.declared.rows.BinOp.TheVariants.{Or, And, Eq, Ne, Lt, Le, Gt, Ge, Add, Sub, Mul, Div, Rem}
-use Rattle.rg_tree.specs.Tree.{Name, Variable, Field, Expr, number, boolean, nil, path, is_nil, neg, not, binary, Class}
+use Rattle.rg_tree.specs.Tree.{Name, Variable, Field, Path, Expr, number, boolean, nil, path, is_nil, neg, not, binary, size, element}
+use Rattle.rg_tree.specs.Tree.{Class}
 use Rattle.rg_rules.specs.Answers.{◌>>=◌}
-use Rattle.rg_rules.specs.Capabilities.{adapt, below, below_cap, pause, pause_cap, is_iso}
-use Rattle.rg_rules.specs.Types.{type_of, fields_of, field_place, field_type}
+use Rattle.rg_rules.specs.Capabilities.{adapt, below, below_cap, pause, pause_cap, is_iso_cap, is_iso}
+use Rattle.rg_rules.specs.Types.{type_of, fields_of, field_place, field_type, element_type}
 use Rattle.rg_rules.specs.Environment.{Env, Entry, entry_of, at_depth, seen_type, available, used}
-use Rattle.rg_rules.specs.Paths.{look_up, read_through, walk_field, walk_fields, walk}
+use Rattle.rg_rules.specs.Paths.{follow, Looked, look_up, read_through, walk_field, walk_fields, walk, walk_array}
 use Rattle.rg_rules.specs.Expressions.{Judged, against, nil_type, judge_path, judge_is_nil, among, result_type, judge_expr}
 use Rattle.rg_rules.specs.State.{Local, Window, value_in, place_in}
 use Rattle.rg_rules.specs.Values.{Computed, as_int, as_bool, number_value, is_zero, operate, decides}
-use Rattle.rg_rules.specs.Evaluation.{object_at, field_value, follow_fields, path_value, value_of}
+use Rattle.rg_rules.specs.Evaluation.{object_at, field_value, place_among, element_place, follow_fields, path_value, value_of}
 use Rattle.rg_rules.proofs.Answers.{bind-ok, then-ok, test-then, ok_or-ok}
-use Rattle.rg_rules.proofs.Path.{look_up-ok}
-use Rattle.rg_rules.proofs.Expression.{against-ok, binary-ok}
+use Rattle.rg_rules.proofs.Path.{follow-ok, look_up-ok}
+use Rattle.rg_rules.proofs.Expression.{against-ok, binary-ok, element-ok}
 use Rattle.rg_rules.proofs.Step.{object_at-ok}
 use Rattle.rg_sound.specs.Windows.{windows_of, IsOpen}
 use Rattle.rg_sound.specs.Values.{LabelFits, Leads, MeetsInt, MeetsBool, MeetsRef, MeetsBy, Meets, FrameMeets}
 use Rattle.rg_sound.specs.Objects.{FieldFits, FieldsMeet, ObjectsFit}
 use Rattle.rg_sound.specs.Frames.{Named}
 use Rattle.rg_sound.proofs.Frames.Named.{first-at}
+use Rattle.rg_sound.proofs.Values.Declared.{named-fields, Elements, elements-meet}
 use Rattle.rg_sound.proofs.Values.Label.{windows_of-open, paused-fits, below-fits, adapt-fits}
 
 -- Values
@@ -151,6 +155,43 @@ read-meets store ws cap Int u own v f m e = let same : Int ≡ u = grind arith i
 read-meets store ws cap Bool u own v f m e = let same : Bool ≡ u = grind arith in let P : Ty → Type 0 = λ q. Meets store ws q v in subst P same m
 read-meets store ws cap (Ref k c) u own v f m e = adapted_by store ws c (adapt cap k) u v (adapted_ref store ws cap k c own v f m) e
 
+adapt-not_iso : (cap k q : Cap) → is_iso_cap k ≡ false → adapt cap k ≡ Some q → is_iso_cap q ≡ false
+adapt-not_iso cap Iso q n h = grind arith
+adapt-not_iso cap k Mut n h = refl
+adapt-not_iso cap k Tmp n h = refl
+adapt-not_iso cap k Paused n h = refl
+adapt-not_iso cap k Imm n h = refl
+adapt-not_iso Mut Mut Iso n h = grind arith
+adapt-not_iso Mut Tmp Iso n h = grind arith
+adapt-not_iso Mut Paused Iso n h = grind arith
+adapt-not_iso Mut Imm Iso n h = grind arith
+adapt-not_iso Tmp Mut Iso n h = grind arith
+adapt-not_iso Tmp Tmp Iso n h = grind arith
+adapt-not_iso Tmp Paused Iso n h = grind arith
+adapt-not_iso Tmp Imm Iso n h = grind arith
+adapt-not_iso Paused Mut Iso n h = grind arith
+adapt-not_iso Paused Tmp Iso n h = grind arith
+adapt-not_iso Paused Paused Iso n h = grind arith
+adapt-not_iso Paused Imm Iso n h = grind arith
+adapt-not_iso Imm Mut Iso n h = grind arith
+adapt-not_iso Imm Tmp Iso n h = grind arith
+adapt-not_iso Imm Paused Iso n h = grind arith
+adapt-not_iso Imm Imm Iso n h = grind arith
+adapt-not_iso Iso Mut Iso n h = grind arith
+adapt-not_iso Iso Tmp Iso n h = grind arith
+adapt-not_iso Iso Paused Iso n h = grind arith
+adapt-not_iso Iso Imm Iso n h = grind arith
+
+-- what is read of a type that isn't `iso` isn't either
+read-not_iso : (cap : Cap) (t u : Ty) → is_iso t ≡ false → read_through cap t ≡ Ok u → is_iso u ≡ false
+read-not_iso cap Int u n e = let same : Int ≡ u = grind arith in ap is_iso (sym same)
+read-not_iso cap Bool u n e = let same : Bool ≡ u = grind arith in ap is_iso (sym same)
+read-not_iso cap (Ref k c) u n e = by (adapt cap k) refl e
+  where
+    by : (o : Option Cap) → adapt cap k ≡ o → ◌>>=◌ (ok_or o Capability) (λ k. Ok (Ref k c)) ≡ Ok u → is_iso u ≡ false
+    by None x g = grind arith
+    by (Some q) x g = let same : Ref q c ≡ u = grind arith in ap is_iso (sym same) ∙ adapt-not_iso cap k q n x
+
 -- an object that is there and one that is there are the same
 same_there : (store : List Seen) (a : ℕ) (o p : Seen) → slice_get store a ≡ Some o → slice_get store a ≡ Some p → o ≡ p
 same_there store a o p e h = let both : ◌≡◌ {A = Option Seen} (Some o) (Some p) = sym e ∙ h in grind arith
@@ -170,7 +211,8 @@ walk_field-meets classes store ws fit t u x v o m e h =
     let R : Seen → Type 0 = λ q. LabelFits ws b.0.receiver q.label in
     let fits : LabelFits ws b.0.receiver o.label = subst R same n.label_fits in
     let ty : field_type classes o.class x ≡ Some b.0.ty = rw class_is l.declared in
-    let f = field-meets classes store (FieldFits ws o.label) (fields_of classes o.class) o.fields x b.0.ty (fit at.address o at.there).fields ty in
+    let f = field-meets classes store (FieldFits ws o.label) (fields_of classes o.class) o.fields x b.0.ty (named-fields classes store ws o (fit
+    at.address o at.there) x b.0.ty ty) ty in
     let S : Val → Type 0 = λ q. MeetsBy store (FieldFits ws o.label) b.0.ty q in
     read-meets store ws b.0.receiver b.0.ty u o.label (field_value classes o x) fits (subst S (sym (field_value-slot classes o x)) f) b.2
 
@@ -309,6 +351,80 @@ judge_path-meets classes store ws n env locals fit s x (f ∷ fs) j v e h =
     let P : Judged → Type 0 = λ q. Meets store ws q.ty v in
     subst P same (walk-meets classes store ws n env locals fit s x (f ∷ fs) p.0 v p.1 h)
 
+-- Elements
+
+-- an array to which a path leads
+pub record ArrayAt (classes : List Class) (store : List Seen) (ws : List Window) (at : Val) (o : Seen) (a : Looked) : Type 0 where
+  pub address : ℕ
+  pub value : at ≡ Obj address
+  pub there : slice_get store address ≡ Some o
+  pub fits : LabelFits ws a.receiver o.label
+  pub declared : element_type classes o.class ≡ Some a.ty
+  pub elements : Elements classes store (FieldFits ws o.label) o a.ty
+
+pub array-at : (classes : List Class) (store : List Seen) (ws : List Window) (n : ℕ) (env : Env) (locals : List Local) →
+    ObjectsFit classes store ws →
+    Sees store ws n env locals → (x : Variable) (xs : List Name) (a : Looked) (at : Val) (o : Seen) → walk_array classes env x xs ≡ Ok a →
+    follow_fields classes store (value_in locals x) xs ≡ Ok at → object_at store at ≡ Ok o → ArrayAt classes store ws at o a
+array-at classes store ws n env locals fit s x xs a at o e h k =
+    let t = bind-ok (walk classes env x xs) _ a e in
+    let r = bind-ok (follow t.0) _ a t.2 in
+    let d = bind-ok (ok_or (element_type classes r.0.class) Mismatch) _ a r.2 in
+    let followed = follow-ok t.0 r.0 r.1 in
+    let declared = ok_or-ok (element_type classes r.0.class) Mismatch d.0 d.1 in
+    let is : record { receiver = r.0.cap; ty = d.0 } ≡ a = let q = d.2 in grind arith in
+    let m = walk-meets classes store ws n env locals fit s x xs t.0 at t.1 h in
+    let p = object_at-ok store at o k in
+    let P : Ty → Type 0 = λ q. Meets store ws q at in
+    let Q : Val → Type 0 = λ q. MeetsRef store r.0.class (LabelFits ws r.0.cap) q in
+    let l : Leads store p.address r.0.class (LabelFits ws r.0.cap) = subst Q p.value (subst P followed.reference m) in
+    let one : l.object ≡ o = same_there store p.address l.object o l.there p.there in
+    let class_is : o.class ≡ r.0.class = ap (λ (q : Seen). q.class) (sym one) ∙ l.class_is in
+    let R : Seen → Type 0 = λ q. LabelFits ws r.0.cap q.label in
+    let ty : element_type classes o.class ≡ Some d.0 = ap (element_type classes) class_is ∙ declared in
+    let T : Looked → Type 0 = λ q. ArrayAt classes store ws at o q in
+    subst T is (record {
+      address = p.address;
+      value = p.value;
+      there = p.there;
+      fits = subst R one l.label_fits;
+      declared = ty;
+      elements = elements-meet classes store ws o (fit p.address o p.there) d.0 ty;
+    })
+
+-- the place of an element is one of the array's
+pub place-within : (o : Seen) (i : Val) (k : ℕ) → element_place o i ≡ Ok k → k < length o.fields
+place-within o i k h = by (as_int i) (ok_or-ok (place_among (length o.fields) (as_int i)) trap.Index k h)
+  where
+    by_less : (b : Truth) (m : ℕ) → nat_lt m (length o.fields) ≡ b → ◌≡◌ {A = Option ℕ} (if b then Some m else None) (Some k) → k < length o.fields
+    by_less true m e g = let same : m ≡ k = grind arith in let l : m < length o.fields = grind arith in omega (arith, same, l)
+    by_less false m e g = grind arith
+
+    by : (z : ℤ) → place_among (length o.fields) z ≡ Some k → k < length o.fields
+    by (pos m) g = by_less (nat_lt m (length o.fields)) m refl g
+    by (negsuc m) g = grind arith
+
+-- what is read from an element meets the element's type
+element-meets : (classes : List Class) (store : List Seen) (ws : List Window) (n : ℕ) (env : Env) (locals : List Local) →
+    ObjectsFit classes store ws →
+    Sees store ws n env locals → (w : Option Ty) (q : Path) (e : Expr) (j : Judged) (v : Val) → judge_expr classes env w (element q e) ≡ Ok j →
+    value_of classes store locals (element q e) ≡ Ok v → Meets store ws j.ty v × (is_iso j.ty ≡ false)
+element-meets classes store ws n env locals fit s w q e j v typed h =
+    let p = element-ok classes env w q e j typed in
+    let c = bind-ok (path_value classes store locals q) _ v h in
+    let o = bind-ok (object_at store c.0) _ v c.2 in
+    let i = bind-ok (value_of classes store locals e) _ v o.2 in
+    let k = bind-ok (element_place o.0 i.0) _ v i.2 in
+    let a = array-at classes store ws n env locals fit s q.base q.fields p.array c.0 o.0 p.walked c.1 o.1 in
+    let is : unwrap_or (slice_get o.0.fields k.0) Nil ≡ v = let x = k.2 in grind arith in
+    let m = a.elements.meets k.0 (place-within o.0 i.0 k.0 k.1) in
+    let P : Val → Type 0 = λ x. Meets store ws p.ty x in (
+      same-meets store ws w p.ty p.index.env j v p.last
+          (subst P is (read-meets store ws p.array.receiver p.array.ty p.ty o.0.label (unwrap_or (slice_get o.0.fields k.0) Nil) a.fits m
+          p.readable)),
+      ap is_iso (against-ok w p.ty p.index.env j p.last).ty ∙ read-not_iso p.array.receiver p.array.ty p.ty a.elements.not_iso p.readable,
+    )
+
 -- what an expression computes to meets its type
 pub value-meets : (classes : List Class) (store : List Seen) (ws : List Window) (n : ℕ) (env : Env) (locals : List Local) →
     ObjectsFit classes store ws →
@@ -339,3 +455,19 @@ value-meets classes store ws n env locals fit s w (binary op a b) j v e h =
     let c = bind-ok (value_of classes store locals a) _ v h in
     same-meets store ws w (result_type (among op)) p.r.env j v p.last
     (binary_by (decides op c.0) op c.0 v (value_of classes store locals b) store (LabelFits ws) refl c.2)
+value-meets classes store ws n env locals fit s w (size q) j v e h =
+    let p = then-ok (walk_array classes env q.base q.fields) _ j e in
+    let c = bind-ok (path_value classes store locals q) _ v h in
+    let o = bind-ok (object_at store c.0) _ v c.2 in
+    let is : IntVal (pos (length o.0.fields)) ≡ v = let x = o.2 in grind arith in
+    let P : Val → Type 0 = λ x. MeetsInt x in same-meets store ws w Int env j v p.2 (subst P is tt)
+value-meets classes store ws n env locals fit s w (element q e) j v typed h =
+    (element-meets classes store ws n env locals fit s w q e j v typed h).0
+
+-- and an element isn't `iso`
+pub element-not_iso : (classes : List Class) (store : List Seen) (ws : List Window) (n : ℕ) (env : Env) (locals : List Local) →
+    ObjectsFit classes store ws →
+    Sees store ws n env locals → (w : Option Ty) (q : Path) (e : Expr) (j : Judged) (v : Val) → judge_expr classes env w (element q e) ≡ Ok j →
+    value_of classes store locals (element q e) ≡ Ok v → is_iso j.ty ≡ false
+element-not_iso classes store ws n env locals fit s w q e j v typed h =
+    (element-meets classes store ws n env locals fit s w q e j v typed h).1

@@ -4,13 +4,12 @@ use Rattle.std.proofs.Common.{refl, length}
 use Rattle.std.specs.Prelude.{nat_lt}
 use Rattle.rg_base.specs.declared.limits.TheConstants.{FRAMES}
 use Rattle.rg_base.specs.Input.{NextNumber, found, malformed, at_end, next_number}
-use Rattle.rg_base.specs.declared.object.Seen.{Seen}
 use Rattle.rg_base.specs.declared.value.Val.{Val}
 use Rattle.rg_base.specs.declared.outcome.Trap.{Trap}
 use Rattle.rg_base.specs.declared.outcome.Trap.TheVariants as trap
 use Rattle.rg_tree.specs.declared.rows.BinOp.{BinOp}
 use Rattle.rg_tree.specs.declared.rows.BinOp.TheVariants as op
-use Rattle.rg_rules.specs.Evaluation.{object_at}
+use Rattle.rg_rules.specs.Evaluation.{object_at, element_place}
 use Rattle.rg_rules.specs.Values.{Computed, as_bool, operate}
 use Rattle.rg_code.specs.declared.op.Op.TheVariants as i
 use Rattle.rg_code.specs.Code.{Code}
@@ -20,16 +19,17 @@ use Rattle.rg_stack.specs.Runs.{step}
 use Rattle.rg_stack.specs.Needs.{needs}
 use Rattle.rg_stack.specs.Given.{given_act, given_step}
 use Rattle.rg_stack.proofs.Callers.Less.{Less, LessFrom, LessAct, SameOrLost, by-need, step-less-by}
+use Rattle.rg_rules.specs.RightSides.{array_size}
 
 top-less : (stack : List Val) (go all : Val → List Val → Walked) → ((v : Val) (rest : List Val) → Less (go v rest) (all v rest))
     → Less (on_top stack go) (on_top stack all)
 top-less [] go all h = inl refl
 top-less (v ∷ rest) go all h = h v rest
 
-object-less : (r : Result Seen Trap) (go all : Seen → Walked) → ((o : Seen) → Less (go o) (all o))
+result-less : {A : Type 0} (r : Result A Trap) (go all : A → Walked) → ((o : A) → Less (go o) (all o))
     → Less (elim r [ Ok o ↦ go o | Err t ↦ Traps t ]) (elim r [ Ok o ↦ all o | Err t ↦ Traps t ])
-object-less (Ok o) go all h = h o
-object-less (Err t) go all h = inr refl
+result-less (Ok o) go all h = h o
+result-less (Err t) go all h = inr refl
 
 if-less : (t : Truth) (a b c d : Walked) → Less a c → Less b d → Less (if t then a else b) (if t then c else d)
 if-less true a b c d h k = h
@@ -60,7 +60,7 @@ pub act-less : LessAct act act
 act-less code at (i.Mark line) go all stack w h = inr refl
 act-less code at (i.Store s) go all stack w h = top-less stack _ _ (λ v rest. h 0 _ _)
 act-less code at (i.Own s) go all stack w h = top-less stack _ _ (λ v rest. h 0 _ _)
-act-less code at (i.Field k) go all stack w h = top-less stack _ _ (λ v rest. object-less (object_at w.machine.store v) _ _ (λ o. h 0 _ _))
+act-less code at (i.Field k) go all stack w h = top-less stack _ _ (λ v rest. result-less (object_at w.machine.store v) _ _ (λ o. h 0 _ _))
 act-less code at i.IsNil go all stack w h = top-less stack _ _ (λ v rest. h 0 _ _)
 act-less code at i.Neg go all stack w h = top-less stack _ _ (λ v rest. pushed-less _ go all rest w h)
 act-less code at i.Add go all stack w h = two-less op.Add go all stack w h
@@ -79,24 +79,34 @@ act-less code at (i.Jump t) go all stack w h = inr refl
 act-less code at (i.JumpFalse t) go all stack w h = top-less stack _ _ (λ v rest. if-less (as_bool v) _ _ _ _ (h 0 _ _) (h _ _ _))
 act-less code at (i.And t) go all stack w h = top-less stack _ _ (λ v rest. if-less (as_bool v) _ _ _ _ (h 0 _ _) (h _ _ _))
 act-less code at (i.Or t) go all stack w h = top-less stack _ _ (λ v rest. if-less (as_bool v) _ _ _ _ (h _ _ _) (h 0 _ _))
-act-less code at i.Check go all stack w h = top-less stack _ _ (λ v rest. object-less (object_at w.machine.store v) _ _ (λ o. h 0 _ _))
+act-less code at i.Check go all stack w h = top-less stack _ _ (λ v rest. result-less (object_at w.machine.store v) _ _ (λ o. h 0 _ _))
 act-less code at (i.Put k) go all stack w h = top-less stack _ _ (λ v rest. top-less rest _ _ (λ r under. h 0 _ _))
-act-less code at (i.Swap s k) go all stack w h = top-less stack _ _ (λ v rest. object-less (object_at w.machine.store v) _ _ (λ o. h 0 _ _))
-act-less code at (i.Freeze s) go all stack w h = object-less _ _ _ (λ o. h 0 _ _)
-act-less code at (i.Merge s) go all stack w h = object-less _ _ _ (λ o. h 0 _ _)
+act-less code at (i.Swap s k) go all stack w h = top-less stack _ _ (λ v rest. result-less (object_at w.machine.store v) _ _ (λ o. h 0 _ _))
+act-less code at (i.Freeze s) go all stack w h = result-less _ _ _ (λ o. h 0 _ _)
+act-less code at (i.Merge s) go all stack w h = result-less _ _ _ (λ o. h 0 _ _)
 act-less code at i.Read go all stack w h = taken-less (next_number w.input) go all stack w h
 act-less code at i.Room go all stack w h =
     if-less (nat_lt (length w.machine.frames) FRAMES) _ (Traps trap.Depth) _ (Traps trap.Depth) (h 0 stack w) (inr refl)
 act-less code at (i.Call m) go all stack w h = inr refl
 act-less code at i.Ret go all stack w h = inr refl
 act-less code at i.RetVoid go all stack w h = inr refl
-act-less code at (i.Enter s z) go all stack w h = opens-less w.machine z _ _ (object-less _ _ _ (λ o. h 0 _ _))
+act-less code at (i.Enter s z) go all stack w h = opens-less w.machine z _ _ (result-less _ _ _ (λ o. h 0 _ _))
 act-less code at (i.EnterField k z) go all stack w h = opens-less w.machine z _ _ (top-less stack _ _ (λ r rest.
-    object-less (object_at w.machine.store r) _ _ (λ o. object-less _ _ _ (λ b. h 0 _ _))))
+    result-less (object_at w.machine.store r) _ _ (λ o. result-less _ _ _ (λ b. h 0 _ _))))
 act-less code at i.Print go all stack w h = top-less stack _ _ (λ v rest. h 0 _ _)
 act-less code at i.Pop go all stack w h = top-less stack _ _ (λ v rest. h 0 _ _)
 act-less code at i.Drop go all stack w h = top-less stack _ _ (λ v rest. h 0 _ _)
 act-less code at i.Halt go all stack w h = inr refl
+act-less code at (i.NewArray c) go all stack w h = top-less stack _ _ (λ v rest. result-less (array_size v) _ _ (λ n. h 0 _ _))
+act-less code at (i.NewTmpArray c) go all stack w h = top-less stack _ _ (λ v rest. result-less (array_size v) _ _ (λ n. h 0 _ _))
+act-less code at (i.NewIsoArray c m) go all stack w h = top-less stack _ _ (λ v rest. result-less (array_size v) _ _ (λ n. h 0 _ _))
+act-less code at i.Size go all stack w h = top-less stack _ _ (λ v rest. result-less (object_at w.machine.store v) _ _ (λ o. h 0 _ _))
+act-less code at i.Bound go all stack w h = top-less stack _ _ (λ v rest. top-less rest _ _ (λ r under.
+    result-less (object_at w.machine.store r) _ _ (λ o. result-less (element_place o v) _ _ (λ k. h 0 _ _))))
+act-less code at i.Element go all stack w h = top-less stack _ _ (λ v rest. top-less rest _ _ (λ r under. h 0 _ _))
+act-less code at i.PutElement go all stack w h = top-less stack _ _ (λ v rest. top-less rest _ _ (λ x below. top-less below _ _ (λ r under.
+    h 0 _ _)))
+act-less code at (i.LeaveGiving v s) go all stack w h = result-less _ _ _ (λ o. h 0 _ _)
 act-less code at _ go all stack w h = h 0 _ _
 
 -- where each instruction is given what it needs

@@ -19,13 +19,14 @@ use Rattle.rg_rules.specs.Regions.{region_of, region_at, address, owned, owned_a
 use Rattle.rg_rules.specs.Regions.{relabelled_object, relabelled}
 use Rattle.rg_rules.specs.Owners.{owned_by_slot, owned_by_field}
 use Rattle.rg_sound.specs.Values.{MeetsBy}
-use Rattle.rg_sound.specs.Objects.{FieldFits, ObjectsFit}
+use Rattle.rg_sound.specs.Objects.{FieldFits, ObjectsFit, ObjectFits, fields_in as declared_in}
 use Rattle.rg_sound.proofs.Held.{slot-meets}
 use Rattle.rg_sound.proofs.Stores.Member.{In, among-in, in-among, not-among, among-not, in-left, in-right, in-split, filter-in, filter-back}
 use Rattle.rg_sound.proofs.Stores.Member.{joined-old, joined-new, joined-back}
 use Rattle.rg_sound.proofs.Stores.Beneath.{Led, led-in, led-back}
 use Rattle.rg_stack.specs.Effects.{led_by_labels, beneath_by_labels}
 use Rattle.rg_stack.proofs.Basics.{none-some}
+use Rattle.rg_sound.proofs.Values.Declared.{owned-declared}
 
 -- two lists have the same numbers
 pub record Same (ns ms : List ℕ) : Type 0 where
@@ -190,7 +191,7 @@ module _ (classes : List Class) (store : List Seen) (windows : List Window) (obj
   to_owner : (qs : List ℕ) (r n : ℕ) → In r qs → LeadsTo store store r n → In n qs ⊎ In n (led_from classes store (in_regions qs) store)
   to_owner qs r n i h =
       let fit = objects h.object h.holder h.there in
-      let slot = slot-meets classes store (FieldFits windows h.holder.label) (fields_of classes h.holder.class) h.holder.fields h.field
+      let slot = slot-meets classes store (FieldFits windows h.holder.label) (declared_in classes fit.class h.holder) h.holder.fields h.field
       (val.Obj h.address) fit.fields h.value in
       let meets = subst (λ l. MeetsBy store (FieldFits windows l) (type_of classes slot.field.ty) (val.Obj h.address)) h.lies slot.meets in
       elim (by_type r n h.address (type_of classes slot.field.ty) meets h.leads) [
@@ -205,14 +206,18 @@ module _ (classes : List Class) (store : List Seen) (windows : List Window) (obj
         }))
       ]
     where
-      owns : (f : Field) → slice_get (fields_of classes h.holder.class) h.field ≡ Some f → is_iso (type_of classes f.ty) ≡ true
+      fit : ObjectFits classes store windows h.holder
+      fit = objects h.object h.holder h.there
+
+      owns : (f : Field) → slice_get (declared_in classes fit.class h.holder) h.field ≡ Some f → is_iso (type_of classes f.ty) ≡ true
           → owned_by_field classes h.holder h.field ≡ Some h.address
       owns f is iso =
           ap (λ l. elim l [ Region r ↦ owned_by_slot classes h.holder h.field | Temp n ↦ owned_by_slot classes h.holder h.field | Frozen ↦ None ])
           h.lies
-          ∙ ap (option_and_then (λ (f : Field). option_and_then (owned_as classes f) (slice_get h.holder.fields h.field))) is
+          ∙ owned-declared classes store windows h.holder fit h.field h.address
+          (ap (option_and_then (λ (f : Field). option_and_then (owned_as classes f) (slice_get h.holder.fields h.field))) is
           ∙ ap (option_and_then (owned_as classes f)) h.value
-          ∙ owned_value (type_of classes f.ty) h.address iso
+          ∙ owned_value (type_of classes f.ty) h.address iso)
 
   owned_obj : (b : Truth) (v : Val) (a : ℕ) → (if b then address v else None) ≡ Some a → v ≡ val.Obj a
   owned_obj false v a e = none-some a e

@@ -4,10 +4,10 @@ use Rattle.std.proofs.Common.{◌∙◌, append_assoc, unwrap_or, slice_get, Non
 use Rattle.std.specs.Prelude.{Bool as Truth, drop, reverse}
 use Rattle.std.specs.Result.{result_ok}
 use Rattle.rg_base.specs.declared.ty.Ty.{Ty}
-use Rattle.rg_tree.specs.Tree.{Path, stmt, Stmt, Block, empty as none, then as more_of, Class, Tree}
+use Rattle.rg_tree.specs.Tree.{Name, Path, stmt, Stmt, Block, empty as none, then as more_of, Class, Tree}
 use Rattle.rg_rules.specs.Acceptance.{Accepted}
 use Rattle.rg_rules.specs.Environment.{Env}
-use Rattle.rg_rules.specs.Items.{Item, Do, EndAt, LeaveAt, Back, items_of}
+use Rattle.rg_rules.specs.Items.{Item, Do, EndAt, LeaveAt, LeaveGiving, Back, leave_of, items_of}
 use Rattle.rg_rules.specs.Statements.{judge_stmt, last_of}
 use Rattle.rg_rules.specs.Bodies.{Body, main_body}
 use Rattle.rg_rules.specs.Points.{Point, here, behind, inside, Spot, spot_in, spot_at, inner_block, block_end, entered_path}
@@ -15,6 +15,7 @@ use Rattle.rg_rules.specs.State.{Local, Target, Frame, Window}
 use Rattle.rg_rules.proofs.Point.{and_then-some}
 use Rattle.rg_sound.specs.Frames.{leaves, Entered, Waits, WaitsEmpty, Beneath, Running}
 use Rattle.rg_sound.proofs.Base.{entered_first}
+use Rattle.rg_sound.proofs.Frames.Spot.{leaves-leave_of}
 use Rattle.rg_stack.specs.Left.{SomeLeft}
 use Rattle.rg_stack.proofs.Judgements.Spot.{leaves_frame, inner_stays}
 use Rattle.rg_stack.proofs.Judgements.Base.{WindowThere, beneath-window}
@@ -81,6 +82,9 @@ do-other s e = true≢false (sym (ap is_end e))
 
 pub leave-other : (k : ℕ) → LeaveAt k ≡ EndAt 0 → ⊥
 leave-other k e = true≢false (sym (ap is_end e))
+
+pub giving-other : (line k : ℕ) (w : Name) → LeaveGiving line k w ≡ EndAt 0 → ⊥
+giving-other line k w e = true≢false (sym (ap is_end e))
 
 pub back-other : Back ≡ EndAt 0 → ⊥
 back-other e = true≢false (sym (ap is_end e))
@@ -153,11 +157,12 @@ two_of n locals ps (w ∷ v ∷ ws) under k ks entered e b = record {
   base_place = ap (λ l. unwrap_or (slice_get l 0) k) e;
 }
 
-pub leaving-windows : (t : Tree) (top : Frame) (lower : List Frame) (ws : List Window) (k : ℕ) (rest : List Item)
-    → Running t top lower ws (LeaveAt k ∷ rest) → TwoWindows ws (length lower) k
-leaving-windows t top lower ws k rest h =
-    let first : h.first ≡ LeaveAt k = ap (λ l. unwrap_or (slice_get l 0) (LeaveAt k)) (sym h.items_are) in
-    let at : leaves h.spot.items ≡ k ∷ leaves h.more = ap leaves (h.begins ∙ ap (λ i. i ∷ h.more) first) in
+pub leaving-windows : (t : Tree) (top : Frame) (lower : List Frame) (ws : List Window) (line k : ℕ) (giving : Option Name) (rest : List Item)
+    → Running t top lower ws (leave_of line k giving ∷ rest) → TwoWindows ws (length lower) k
+leaving-windows t top lower ws line k giving rest h =
+    let first : h.first ≡ leave_of line k giving = ap (λ l. unwrap_or (slice_get l 0) (leave_of line k giving)) (sym h.items_are) in
+    let at : leaves h.spot.items ≡ k ∷ leaves h.more =
+    ap leaves (h.begins ∙ ap (λ i. i ∷ h.more) first) ∙ leaves-leave_of line k giving h.more in
     subst (λ q. TwoWindows q (length lower) k) (sym h.windows_are)
     (two_of (length lower) top.locals (reverse h.spot.enters) h.own h.under k (leaves h.more) h.stands.entered (h.stands.bases ∙ at)
     (beneath-window t lower h.under h.rest h.body top.target h.beneath))

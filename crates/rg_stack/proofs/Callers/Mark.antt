@@ -1,13 +1,13 @@
 -- A step of the stack machine is one of the machine that never frees: what all kinds of statement share.
 use Rattle.std.proofs.Common.{◌≡◌, ℕ, zero, suc, ◌+◌, true, false, Bool as Truth, true≢false, if◌then◌else◌, List, [], ◌∷◌, ◌++◌, length, map, drop}
-use Rattle.std.proofs.Common.{replicate, Some, refl, sym, ap, ◌∙◌, slice_get, unwrap_or}
+use Rattle.std.proofs.Common.{Some, replicate, refl, sym, ap, ◌∙◌, slice_get, unwrap_or}
 use Rattle.std.proofs.lemmas.Option.{same_Some}
 use Rattle.std.proofs.lemmas.List.{take-append-drop, drop-drop}
 use Rattle.rg_base.specs.declared.value.Val.{Val}
 use Rattle.rg_base.specs.declared.value.Val.TheVariants as val
 use Rattle.rg_tree.specs.Tree.{Variable, stmt, StmtKind, declare, Class}
 use Rattle.rg_rules.specs.Environment.{same_variable}
-use Rattle.rg_rules.specs.Items.{Item, Do}
+use Rattle.rg_rules.specs.Items.{Item, Do, LeaveGiving}
 use Rattle.rg_rules.specs.State.{Local, value_in}
 use Rattle.rg_code.specs.declared.op.Op.{Op}
 use Rattle.rg_code.specs.declared.op.Op.TheVariants as i
@@ -73,6 +73,9 @@ lies_at_mark classes code [] j rest at h = absurd h
 lies_at_mark classes code (l ∷ ls) (Do (stmt line k)) rest at h = ap is_mark
     (sym (first-drop code at) ∙ ap (λ l. slice_get l 0) (drop-stands code at (kind_code classes l.scope at line k) h.0.0))
     ∙ starts classes l.scope at line k (drop (at + length (kind_code classes l.scope at line k)) code)
+lies_at_mark classes code (l ∷ ls) (LeaveGiving line k w) rest at h = ap is_mark
+    (sym (first-drop code at)
+    ∙ ap (λ l. slice_get l 0) (drop-stands code at (i.Mark line ∷ i.LeaveGiving (slot_of l.scope (Some w)) k ∷ []) h.0))
 lies_at_mark classes code (l ∷ ls) _ rest at h = h.0
 
 -- a walk ends where items begin

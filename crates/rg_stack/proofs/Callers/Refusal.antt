@@ -2,7 +2,7 @@
 use Rattle.std.proofs.Common.{◌≡◌, false, ℕ, ◌+◌, true, inl, inr, List, [], ◌∷◌, length, drop, subst}
 use Rattle.rg_tree.specs.Tree.{stmt, Tree}
 use Rattle.rg_rules.specs.Acceptance.{Accepted}
-use Rattle.rg_rules.specs.Items.{Item, Do, EndAt, LeaveAt, Back}
+use Rattle.rg_rules.specs.Items.{Item, Do, EndAt, LeaveAt, LeaveGiving, Back}
 use Rattle.rg_rules.specs.State.{Frame as Body, Window as Opened}
 use Rattle.rg_sound.specs.Frames.{FramesFit, Running}
 use Rattle.rg_code.specs.declared.op.Op.{Op}
@@ -12,8 +12,8 @@ use Rattle.rg_stack.specs.Shows.{ShowsFrames, levels_of}
 use Rattle.rg_stack.specs.Left.{SomeLeft}
 use Rattle.rg_stack.specs.Refusals.{orderly, CalmBehind}
 use Rattle.rg_stack.specs.Laws.{StepsOrderly}
-use Rattle.rg_stack.proofs.Callers.Left.{do-other, leave-other, running-left}
-use Rattle.rg_stack.proofs.Refusals.Kind.{statement-orderly, end-orderly, leave-orderly, back-orderly}
+use Rattle.rg_stack.proofs.Callers.Left.{do-other, leave-other, giving-other, running-left}
+use Rattle.rg_stack.proofs.Refusals.Kind.{statement-orderly, end-orderly, leave-orderly, leave-giving-orderly, back-orderly}
 use Rattle.rg_stack.proofs.Refusals.Behind.{calm-back, running-leaves}
 
 module _ (t : Tree) (accepted : Accepted t) (code : List Op) (at : ℕ) where
@@ -30,6 +30,9 @@ module _ (t : Tree) (accepted : Accepted t) (code : List Op) (at : ℕ) where
   item_orderly mf mfs f fs (EndAt k) rest left lies = end-orderly t.classes code (level mf f) (levels_of mfs fs) k rest at lies
   item_orderly mf mfs f fs (LeaveAt k) [] left lies = absurd (left (leave-other k))
   item_orderly mf mfs f fs (LeaveAt k) (j ∷ rest) left lies = leave-orderly t.classes code (level mf f) (levels_of mfs fs) k j rest at lies
+  item_orderly mf mfs f fs (LeaveGiving line k w) [] left lies = absurd (left (giving-other line k w))
+  item_orderly mf mfs f fs (LeaveGiving line k w) (j ∷ rest) left lies =
+      leave-giving-orderly t.classes code (level mf f) (levels_of mfs fs) line k w j rest at lies
   item_orderly mf mfs f fs Back rest left lies = back-orderly t.classes code (level mf f) (levels_of mfs fs) rest at lies
 
   -- what is behind the topmost frame

@@ -82,7 +82,7 @@ lowered_moves t w p accepted fit h quiet left =
     subst (λ x. SameMove t.classes (lowered t) p.output (next t.classes p) (given_step (lowered t) x)) (sym same)
     (all-move t accepted p.store p.managers p.windows_made w.machine.at p.input p.output w.machine.frames w.machine.windows p.frames p.windows
     p.items left
-    fit.frames (fit-data t p fit) mirrors)
+    fit.frames (fit-data t p fit) fit.bridges mirrors)
 
 -- a step that isn't lost was given what it needs
 given_by : (classes : List Class) (code : Code) (before : List Val) (d : Plain) (x y : Stepped) → SameOrLost x y

@@ -22,7 +22,7 @@ use Rattle.rg_rules.specs.Bodies.{Body, method_body}
 use Rattle.rg_rules.specs.Answers.{at_line}
 use Rattle.rg_rules.specs.Rights.{Called, judge_call, judge_right, right_call}
 use Rattle.rg_rules.specs.Statements.{judge_block, judge_kind, judge_assign}
-use Rattle.rg_rules.specs.State.{Local, Target, Declares, Assigns, Drops, Frame, Window, State}
+use Rattle.rg_rules.specs.State.{Local, Target, Declares, Assigns, Drops, Frame, Window}
 use Rattle.rg_rules.specs.Owners.{leads_into}
 use Rattle.rg_rules.specs.Evaluation.{uses, cleared}
 use Rattle.rg_rules.specs.Steps.{next}
@@ -37,7 +37,7 @@ use Rattle.rg_sound.proofs.Frames.Top.{running-top}
 use Rattle.rg_sound.proofs.Owners.Owner.{AllOwners, AllOwners-map}
 use Rattle.rg_sound.proofs.Owners.Data.{Data, pop-frame}
 use Rattle.rg_sound.proofs.Values.Right.{OwnsFreshAs}
-use Rattle.rg_sound.proofs.Values.Deliver.{waits-doing, pop-leads, elsewhere-leads, call-result}
+use Rattle.rg_sound.proofs.Values.Deliver.{pop-leads, elsewhere-leads, call-result}
 use Rattle.rg_sound.proofs.Frames.Body.{method_end-free}
 use Rattle.rg_sound.proofs.Values.Return.{result-below}
 use Rattle.rg_sound.specs.Frames.{Entered, Waits, WaitsEmpty, Beneath, Running, with_target, assigned_call, call_of}
@@ -240,13 +240,26 @@ module _ (t : Tree) (accepted : Accepted t) (r : Round) (slots under : List Val)
       → Begun t r store under callers managers w.spot.env
   waiting_begun fits w =
       let b = h.beneath in
-      let s : State = state r store callers managers input (Do (stmt w.line w.kind) ∷ (b.3 ++ b.4)) in
-      let are : r.opened ≡ b.1 ++ b.2 = h.windows_are ∙ ap (λ l. l ++ h.under) none ∙ b.5 in
-      let doing = waits-doing t accepted s b.0 caller r.bodies b.1 b.2 b.3 b.4 h.body target w b.8 are fits refl in
+      let run : Running t caller r.bodies r.opened (Do (stmt w.line w.kind) ∷ (b.3 ++ b.4)) = record {
+        body = b.0;
+        own = b.1;
+        under = b.2;
+        windows_are = h.windows_are ∙ ap (λ l. l ++ h.under) none ∙ b.5;
+        point = w.point;
+        spot = w.spot;
+        spot_is = w.spot_is;
+        stands = w.stands;
+        first = Do (stmt w.line w.kind);
+        more = b.3;
+        begins = w.begins;
+        rest = b.4;
+        items_are = refl;
+        beneath = b.8;
+      } in
       let there = windows_below (sizes_of (record { slots = under; back = r.back } ∷ r.frames)) (length slots) r.windows r.opened lower
       (subst (λ k. ShowsWindows k r.windows r.opened)
       (sizes-more (record { slots = slots; back = back }) (record { slots = under; back = r.back } ∷ r.frames)) windows) in
-      begun_of t accepted r store under callers managers w.spot.env shows there (Do (stmt w.line w.kind) ∷ (b.3 ++ b.4)) doing.r refl fits
+      begun_of t accepted r store under callers managers w.spot.env shows there (Do (stmt w.line w.kind) ∷ (b.3 ++ b.4)) run refl fits
 
   taken_by : Data t.classes store (caller ∷ r.bodies) r.opened (length managers) r.made → Meets store r.opened ty v
       → OwnsFreshAs t.classes store (caller ∷ r.bodies) ty v

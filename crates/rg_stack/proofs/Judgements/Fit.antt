@@ -17,7 +17,7 @@ use Rattle.rg_base.specs.declared.outcome.Trap.TheVariants as trap
 use Rattle.rg_tree.specs.Tree.{Name, Variable, Path, Field, Class, Tree}
 use Rattle.rg_rules.specs.Capabilities.{is_iso}
 use Rattle.rg_rules.specs.Types.{type_of, fields_of, field_place, field_type}
-use Rattle.rg_rules.specs.Environment.{seen_type, Env, Entry, entry_of, same_variable}
+use Rattle.rg_rules.specs.Environment.{Env, Entry, entry_of, same_variable}
 use Rattle.rg_rules.specs.Items.{Item}
 use Rattle.rg_rules.specs.Bodies.{Body}
 use Rattle.rg_rules.specs.State.{Local, Target, value_in, place_in, Frame, Window}
@@ -27,6 +27,8 @@ use Rattle.rg_rules.proofs.Answers.{ok_or-ok}
 use Rattle.rg_rules.proofs.Step.{object_at-ok}
 use Rattle.rg_sound.specs.Windows.{windows_of, windows_from}
 use Rattle.rg_sound.specs.Values.{IsRegion, LabelFits, MeetsBy, Meets, FrameMeets}
+use Rattle.rg_sound.proofs.Values.Declared.{declared-fields, named-fields}
+use Rattle.rg_sound.proofs.Values.Value.{Sees, seen-meets}
 use Rattle.rg_sound.specs.Objects.{FieldFits, FieldsMeet, ObjectsFit}
 use Rattle.rg_sound.specs.Frames.{Named, Entered, Waits, WaitsEmpty, Beneath, Running}
 use Rattle.rg_code.specs.Lowering.{type_in}
@@ -174,8 +176,8 @@ field-in_region classes store ws h v o f t there live declared iso =
     let l = object_at-ok store v o there in
     let fit = h l.address o l.there in
     fields-meet (λ t v. is_iso t ≡ true → InRegion store v) classes store (FieldFits ws o.label)
-    (λ t v m i. meets-iso store (FieldFits ws o.label) (field_iso ws o.label live) t v i m) (fields_of classes o.class) o.fields f t fit.fields
-    declared iso
+    (λ t v m i. meets-iso store (FieldFits ws o.label) (field_iso ws o.label live) t v i m) (fields_of classes o.class) o.fields f t
+    (named-fields classes store ws o fit f t declared) declared iso
 
 place_within : (b : Truth) (place : Option ℕ) (n k : ℕ) → ((j : ℕ) → place ≡ Some j → j < n)
     → (if b then Some 0 else option_map suc place) ≡ Some k → k < suc n
@@ -191,11 +193,25 @@ fields-there classes store F (f ∷ fs) [] x k h e = absurd h
 fields-there classes store F (f ∷ fs) (v ∷ vs) x k h e = place_within (bytes_eq f.name x) (field_place fs x) (length vs) k
     (λ j is. fields-there classes store F fs vs x j h.1 is) e
 
+-- a field that has a place is there
+place-field : (fs : List Field) (x : Name) (k : ℕ) → field_place fs x ≡ Some k → (f : Field) × (slice_get fs k ≡ Some f)
+place-field [] x k h = absurd (none-some k h)
+place-field (g ∷ gs) x k h = by (bytes_eq g.name x) (field_place gs x) h (λ j e. place-field gs x j e)
+  where
+    by : (b : Truth) (p : Option ℕ) → (if b then Some 0 else option_map suc p) ≡ Some k
+        → ((j : ℕ) → p ≡ Some j → (f : Field) × (slice_get gs j ≡ Some f)) → (f : Field) × (slice_get (g ∷ gs) k ≡ Some f)
+    by true p e more = (g, subst (λ n. slice_get (g ∷ gs) n ≡ Some g) (same_Some 0 k e) refl)
+    by false None e more = absurd (none-some k e)
+    by false (Some j) e more = let m = more j refl in (m.0, subst (λ n. slice_get (g ∷ gs) n ≡ Some m.0) (same_Some (suc j) k e) m.1)
+
 objects-sizes : (classes : List Class) (store : List Seen) (ws : List Window) → ObjectsFit classes store ws → HaveFields classes store
 objects-sizes classes store ws h v o f k there place =
     let l = object_at-ok store v o there in
-    lt-ltb k (length o.fields)
-    (fields-there classes store (FieldFits ws o.label) (fields_of classes o.class) o.fields f k (h l.address o l.there).fields place)
+    let fit = h l.address o l.there in
+    let field = place-field (fields_of classes o.class) f k place in
+    let fields = subst (λ fs. FieldsMeet classes store (FieldFits ws o.label) fs o.fields)
+    (declared-fields classes store ws o fit k field.0 field.1) fit.fields in
+    lt-ltb k (length o.fields) (fields-there classes store (FieldFits ws o.label) (fields_of classes o.class) o.fields f k fields place)
 
 pub objects-fields : (classes : List Class) (store : List Seen) (ws : List Window) → ObjectsFit classes store ws
     → (v : Val) (o : Seen) (f : Name) (t : Ty) → object_at store v ≡ Ok o → field_type classes o.class f ≡ Some t
@@ -204,24 +220,25 @@ objects-fields classes store ws h v o f t there declared =
     let l = object_at-ok store v o there in
     let fit = h l.address o l.there in
     fields-meet (OfType store) classes store (FieldFits ws o.label) (meets-of_type store (FieldFits ws o.label)) (fields_of classes o.class)
-    o.fields f t fit.fields declared
+    o.fields f t (named-fields classes store ws o fit f t declared) declared
 
 -- the facts of the judgements' lemmas, of the frame that runs
 pub facts_of : (classes : List Class) (env : Env) (store : List Seen) (now : List Now) (windows : List Window) (n : ℕ) (locals : List Local)
-    → Named env.entries locals → FrameMeets store windows n locals → ObjectsFit classes store windows
+    → ObjectsFit classes store windows
     → ((t : Ty) (v : Val) → Meets store windows t v → is_iso t ≡ false → is_shut store now v ≡ false)
-    → ((x : Variable) (e : Entry) → entry_of env x ≡ Some e → Meets store windows (seen_type env e) (value_in locals x))
-    → Facts classes env store now locals
-facts_of classes env store now windows n locals named meets objects shut seen = record {
-  declared = λ x e there. (found-named env.entries locals x e named there).type_is;
-  variables = λ x e there. let f = found-named env.entries locals x e named there in
+    → Sees store windows n env locals → Facts classes env store now locals
+facts_of classes env store now windows n locals objects shut sees = record {
+  declared = λ x e there. (found-named env.entries locals x e sees.named there).type_is;
+  variables = λ x e there. let f = found-named env.entries locals x e sees.named there in
       subst (OfType store e.ty) (sym f.value_is) (subst (λ t. OfType store t f.local.value) f.ty_is
-      (meets-of_type store (LabelFits (windows_of n f.place windows)) f.local.ty f.local.value (meets f.place f.local f.there)));
+      (meets-of_type store (LabelFits (windows_of n f.place windows)) f.local.ty f.local.value (sees.values f.place f.local f.there)));
   fields = objects-fields classes store windows objects;
   sizes = objects-sizes classes store windows objects;
   opened = windows;
   safe = record { objects = objects; shut = shut };
-  meets = seen;
+  frame = n;
+  sees = sees;
+  meets = seen-meets store windows n env locals sees;
 }
 
 -- what `freeze`, `merge` and `enter x` want of their variable

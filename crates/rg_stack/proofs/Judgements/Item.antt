@@ -1,23 +1,23 @@
 -- Each step of an accepted program from a state that fits, whatever the first item is: the machines do the same.
-use Rattle.std.proofs.Common.{◌≡◌, ℕ, suc, inl, inr, List, [], ◌∷◌, length, map, refl, sym, ap, subst, ◌∙◌, true}
+use Rattle.std.proofs.Common.{◌≡◌, ℕ, suc, inl, inr, List, [], ◌∷◌, length, map, refl, sym, ap, subst, ◌∙◌, true, Option, Some, None, take, ◌||◌}
 use Rattle.std.specs.Prelude.{◌&&◌, ◌+◌, nat_le}
 use Rattle.std.proofs.lemmas.List.{length-map, length-reverse}
 use Rattle.std.proofs.lemmas.Bool.{and_from}
 use Rattle.rg_base.specs.declared.value.Val.{Val}
 use Rattle.rg_base.specs.declared.object.Seen.{Seen}
 use Rattle.rg_base.specs.declared.words.Manager.{Manager}
-use Rattle.rg_tree.specs.Tree.{stmt, StmtKind, return, Tree}
+use Rattle.rg_tree.specs.Tree.{stmt, StmtKind, return, Tree, Name}
 use Rattle.rg_rules.specs.Acceptance.{Accepted}
-use Rattle.rg_rules.specs.Items.{Item, Do, EndAt, LeaveAt, Back}
+use Rattle.rg_rules.specs.Items.{Item, Do, EndAt, LeaveAt, Back, LeaveGiving, leave_of}
 use Rattle.rg_rules.specs.State.{Frame as Body, Window as Opened}
 use Rattle.rg_rules.specs.Steps.{next}
 use Rattle.rg_sound.specs.Frames.{Running, FramesFit}
 use Rattle.rg_sound.proofs.Owners.Data.{Data, data-fit}
 use Rattle.rg_sound.proofs.Writable.{writable-live}
 use Rattle.rg_code.specs.declared.op.Op.TheVariants as i
-use Rattle.rg_code.specs.Lowering.{lowered}
-use Rattle.rg_stack.specs.Machine.{Frame, Window, slots_below, end_slots}
-use Rattle.rg_stack.specs.Needs.{needs, owned_once, temps_may_go, owner_leads, top_base}
+use Rattle.rg_code.specs.Lowering.{lowered, slot_of}
+use Rattle.rg_stack.specs.Machine.{Frame, Window, slots_below, end_slots, slot_at}
+use Rattle.rg_stack.specs.Needs.{needs, owned_once, temps_may_go, owner_leads, top_base, seen_by_owner}
 use Rattle.rg_stack.specs.Shows.{ShowsWindows, sizes_of}
 use Rattle.rg_stack.specs.Left.{SomeLeft}
 use Rattle.rg_stack.specs.Given.{given_step as step}
@@ -27,16 +27,21 @@ use Rattle.rg_stack.proofs.Walks.Place.{GoesOn}
 use Rattle.rg_stack.proofs.Walks.End.{Round}
 use Rattle.rg_stack.proofs.Callers.Lead.{ShowsFit}
 use Rattle.rg_stack.proofs.Callers.Once.{owned_once-fits}
-use Rattle.rg_stack.proofs.Needs.Leave.{leave-fits}
+use Rattle.rg_stack.proofs.Needs.Leave.{leave-fits, giving-fits}
 use Rattle.rg_stack.proofs.Statements.Block.{end-mirrors}
 use Rattle.rg_stack.proofs.Callers.Base.{as_many, base_is, starts-behind}
-use Rattle.rg_stack.proofs.Statements.Window.{leave-mirrors}
+use Rattle.rg_stack.proofs.Statements.Window.{leave-mirrors, OwnerHere, leave-giving-mirrors}
 use Rattle.rg_stack.proofs.Statements.Return.{back-mirrors}
 use Rattle.rg_stack.proofs.Judgements.Base.{beneath-begins}
 use Rattle.rg_stack.proofs.Judgements.Fit.{running-beneath}
 use Rattle.rg_stack.proofs.Judgements.Spot.{leaves_frame}
 use Rattle.rg_stack.proofs.Judgements.Begin.{alone, fit-statement, fit-return}
-use Rattle.rg_stack.proofs.Callers.Left.{do-other, leave-other, back-other, running-left, main-stays, leaving-windows}
+use Rattle.rg_stack.proofs.Callers.Left.{do-other, leave-other, back-other, running-left, main-stays, leaving-windows, giving-other}
+use Rattle.rg_rules.specs.Values.{is_nil_value}
+use Rattle.rg_sound.specs.Bridges.{BridgesFit}
+use Rattle.rg_code.specs.Places.{scope_of}
+use Rattle.rg_stack.specs.Effects.{top_region}
+use Rattle.rg_stack.specs.Labels.{is_into}
 
 -- what both machines have
 module _ (t : Tree) (accepted : Accepted t) (store : List Seen) (managers : List Manager) (made at : ℕ) (input : List ℕ) (output : List Val) where
@@ -139,6 +144,42 @@ module _ (t : Tree) (accepted : Accepted t) (store : List Seen) (managers : List
       leave-mirrors t.classes (lowered t) (round mf mfs (mv ∷ mw ∷ mws) f fs (v ∷ w ∷ ws)) store mf.slots f.locals managers input mv mw mws v w ws k j
       rest shows need
 
+  -- the same with `giving x`
+  giving-moves : (mf : Frame) (mfs : List Frame) (mws : List Window) (f : Body) (fs : List Body) (v w : Opened) (ws : List Opened) (line k : ℕ)
+      (x : Name) (j : Item) (rest : List Item)
+      → needs (lowered t) (i.LeaveGiving (slot_of (scope_of f.locals) (Some x)) k) []
+      (work_of store (mf ∷ mfs) mws managers made at input).machine ≡ true
+      → OwnerHere v.owner (length fs) (length (take k f.locals))
+      → Showing (mf ∷ mfs) mws (f ∷ fs) (v ∷ w ∷ ws) (LeaveGiving line k x ∷ j ∷ rest)
+      → Moves (mf ∷ mfs) mws (f ∷ fs) (v ∷ w ∷ ws) (LeaveGiving line k x ∷ j ∷ rest)
+  giving-moves mf mfs [] f fs v w ws line k x j rest need here shows = absurd shows.windows
+  giving-moves mf mfs (mv ∷ []) f fs v w ws line k x j rest need here shows = absurd shows.windows.1
+  giving-moves mf mfs (mv ∷ mw ∷ mws) f fs v w ws line k x j rest need here shows =
+      leave-giving-mirrors t.classes (lowered t) (round mf mfs (mv ∷ mw ∷ mws) f fs (v ∷ w ∷ ws)) store mf.slots f.locals managers input mv mw mws v w
+      ws line k x j rest shows need here
+
+  -- what leaving needs, whatever is given
+  leave-needs : (mf : Frame) (mfs : List Frame) (mws : List Window) (f : Body) (fs : List Body) (ws : List Opened) (line k : ℕ)
+      (giving : Option Name) (j : Item) (rest : List Item)
+      → (h : Running t f fs ws (leave_of line k giving ∷ j ∷ rest)) → Data t.classes store (f ∷ fs) ws (length managers) made
+      → BridgesFit t.classes store (f ∷ fs) ws → Showing (mf ∷ mfs) mws (f ∷ fs) ws (leave_of line k giving ∷ j ∷ rest)
+      → let m = (work_of store (mf ∷ mfs) mws managers made at input).machine in
+      (owned_once m && temps_may_go (end_slots m k) && owner_leads (end_slots m k) && nat_le (slots_below mfs + k) (top_base mws)) ≡ true
+  leave-needs mf mfs mws f fs ws line k giving j rest h a bridged s =
+      let m = (work_of store (mf ∷ mfs) mws managers made at input).machine in
+      let p = state_of store (f ∷ fs) ws managers made input output (leave_of line k giving ∷ j ∷ rest) in
+      let last = leave-fits t accepted p line k giving (j ∷ rest) (data-fit t p (inl h) a bridged) f fs refl refl m refl s.slots
+      (sizes_of (mf ∷ mfs)) s.windows in
+      let two = leaving-windows t f fs ws line k giving (j ∷ rest) h in
+      let base : nat_le (slots_below mfs + k) (top_base mws) ≡ true = starts-behind (sizes_of (mf ∷ mfs)) mws two.top (two.next ∷ two.under)
+      (slots_below mfs + k) (subst (ShowsWindows (sizes_of (mf ∷ mfs)) mws) two.are s.windows)
+      (base_is mfs (length mf.slots) two.top.base_frame k two.top.base_place (two.base_frame ∙ sym (as_many mfs fs s.slots.1))
+      (sym two.base_place)) in
+      and_from (owned_once m && temps_may_go (end_slots m k) && owner_leads (end_slots m k)) (nat_le (slots_below mfs + k) (top_base mws))
+      (and_from (owned_once m && temps_may_go (end_slots m k)) (owner_leads (end_slots m k))
+      (and_from (owned_once m) (temps_may_go (end_slots m k)) (once (mf ∷ mfs) mws (f ∷ fs) ws (leave_of line k giving ∷ j ∷ rest) a s) last.0)
+      last.1) base
+
   -- each statement
   do-moves : (mf : Frame) (mfs : List Frame) (mws : List Window) (f : Body) (fs : List Body) (ws : List Opened) (line : ℕ) (k : StmtKind) (j : Item)
       (rest : List Item)
@@ -150,48 +191,56 @@ module _ (t : Tree) (accepted : Accepted t) (store : List Seen) (managers : List
   -- each item that has one behind it
   behind-moves : (mf : Frame) (mfs : List Frame) (mws : List Window) (f : Body) (fs : List Body) (ws : List Opened) (i : Item) (rest : List Item)
       → SomeLeft rest
-      → Running t f fs ws (i ∷ rest) → Data t.classes store (f ∷ fs) ws (length managers) made
+      → Running t f fs ws (i ∷ rest) → Data t.classes store (f ∷ fs) ws (length managers) made → BridgesFit t.classes store (f ∷ fs) ws
       → Showing (mf ∷ mfs) mws (f ∷ fs) ws (i ∷ rest) → Moves (mf ∷ mfs) mws (f ∷ fs) ws (i ∷ rest)
-  behind-moves mf mfs mws f fs ws i [] left h a s = absurd left
-  behind-moves mf mfs mws f fs ws (Do (stmt line k)) (j ∷ rest) left h a s = do-moves mf mfs mws f fs ws line k j rest h a s
-  behind-moves mf mfs mws f fs ws (EndAt k) (j ∷ rest) left h a s = end-mirrors t.classes (lowered t) (round mf mfs mws f fs ws) store mf.slots
+  behind-moves mf mfs mws f fs ws i [] left h a b s = absurd left
+  behind-moves mf mfs mws f fs ws (Do (stmt line k)) (j ∷ rest) left h a b s = do-moves mf mfs mws f fs ws line k j rest h a s
+  behind-moves mf mfs mws f fs ws (EndAt k) (j ∷ rest) left h a b s = end-mirrors t.classes (lowered t) (round mf mfs mws f fs ws) store mf.slots
       f.locals managers input 0 k (j ∷ rest) s (once (mf ∷ mfs) mws (f ∷ fs) ws (EndAt k ∷ j ∷ rest) a s)
-  behind-moves mf mfs mws f fs ws (LeaveAt k) (j ∷ rest) left h a s =
-      let m = (work_of store (mf ∷ mfs) mws managers made at input).machine in
-      let p = state_of store (f ∷ fs) ws managers made input output (LeaveAt k ∷ j ∷ rest) in
-      let last = leave-fits t accepted p k (j ∷ rest) (data-fit t p (inl h) a) f fs refl refl m refl s.slots (sizes_of (mf ∷ mfs)) s.windows in
-      let two = leaving-windows t f fs ws k (j ∷ rest) h in
-      let base : nat_le (slots_below mfs + k) (top_base mws) ≡ true = starts-behind (sizes_of (mf ∷ mfs)) mws two.top (two.next ∷ two.under)
-      (slots_below mfs + k) (subst (ShowsWindows (sizes_of (mf ∷ mfs)) mws) two.are s.windows)
-      (base_is mfs (length mf.slots) two.top.base_frame k two.top.base_place (two.base_frame ∙ sym (as_many mfs fs s.slots.1))
-      (sym two.base_place)) in
-      let need = and_from (owned_once m && temps_may_go (end_slots m k) && owner_leads (end_slots m k)) (nat_le (slots_below mfs + k) (top_base mws))
-      (and_from (owned_once m && temps_may_go (end_slots m k)) (owner_leads (end_slots m k))
-      (and_from (owned_once m) (temps_may_go (end_slots m k)) (once (mf ∷ mfs) mws (f ∷ fs) ws (LeaveAt k ∷ j ∷ rest) a s) last.0) last.1) base in
+  behind-moves mf mfs mws f fs ws (LeaveAt k) (j ∷ rest) left h a b s =
+      let two = leaving-windows t f fs ws 0 k None (j ∷ rest) h in
+      let need = leave-needs mf mfs mws f fs ws 0 k None j rest h a b s in
       let W = λ (vs : List Opened). Showing (mf ∷ mfs) mws (f ∷ fs) vs (LeaveAt k ∷ j ∷ rest) in
       let M = λ (vs : List Opened). Moves (mf ∷ mfs) mws (f ∷ fs) vs (LeaveAt k ∷ j ∷ rest) in
       subst M (sym two.are) (leave-moves mf mfs mws f fs two.top two.next two.under k j rest need (subst W two.are s))
-  behind-moves mf mfs mws f fs ws Back (j ∷ rest) left h a s = back-moves mf mfs mws f fs ws j rest h a s
+  behind-moves mf mfs mws f fs ws (LeaveGiving line k x) (j ∷ rest) left h a b s =
+      let m = (work_of store (mf ∷ mfs) mws managers made at input).machine in
+      let p = state_of store (f ∷ fs) ws managers made input output (LeaveGiving line k x ∷ j ∷ rest) in
+      let two = leaving-windows t f fs ws line k (Some x) (j ∷ rest) h in
+      let last = giving-fits t accepted p line k x (j ∷ rest) (data-fit t p (inl h) a b) f fs refl refl m refl s.slots (sizes_of (mf ∷ mfs))
+      s.windows in
+      let v = slot_at m (slot_of (scope_of f.locals) (Some x)) in
+      let into = is_nil_value v || is_into m.store (top_region m.windows) v in
+      let first = owned_once m && temps_may_go (end_slots m k) && owner_leads (end_slots m k) && nat_le (slots_below mfs + k) (top_base mws) in
+      let need = and_from (first && into) (seen_by_owner m k)
+      (and_from first into (leave-needs mf mfs mws f fs ws line k (Some x) j rest h a b s) last.given) last.seen in
+      let W = λ (vs : List Opened). Showing (mf ∷ mfs) mws (f ∷ fs) vs (LeaveGiving line k x ∷ j ∷ rest) in
+      let M = λ (vs : List Opened). Moves (mf ∷ mfs) mws (f ∷ fs) vs (LeaveGiving line k x ∷ j ∷ rest) in
+      subst M (sym two.are) (giving-moves mf mfs mws f fs two.top two.next two.under line k x j rest need
+      (last.here two.top (two.next ∷ two.under) two.are) (subst W two.are s))
+  behind-moves mf mfs mws f fs ws Back (j ∷ rest) left h a b s = back-moves mf mfs mws f fs ws j rest h a s
 
   -- each item
   item-moves : (mf : Frame) (mfs : List Frame) (mws : List Window) (f : Body) (fs : List Body) (ws : List Opened) (i : Item) (rest : List Item)
-      → Running t f fs ws (i ∷ rest) → Data t.classes store (f ∷ fs) ws (length managers) made
+      → Running t f fs ws (i ∷ rest) → Data t.classes store (f ∷ fs) ws (length managers) made → BridgesFit t.classes store (f ∷ fs) ws
       → Showing (mf ∷ mfs) mws (f ∷ fs) ws (i ∷ rest) → Moves (mf ∷ mfs) mws (f ∷ fs) ws (i ∷ rest)
-  item-moves mf mfs mws f fs ws (Do s) rest h a e = behind-moves mf mfs mws f fs ws (Do s) rest
-      (running-left t f fs ws (Do s) rest h (do-other s)) h a e
-  item-moves mf mfs mws f fs ws (EndAt k) rest h a e = end-mirrors t.classes (lowered t) (round mf mfs mws f fs ws) store mf.slots f.locals
+  item-moves mf mfs mws f fs ws (Do s) rest h a b e = behind-moves mf mfs mws f fs ws (Do s) rest
+      (running-left t f fs ws (Do s) rest h (do-other s)) h a b e
+  item-moves mf mfs mws f fs ws (EndAt k) rest h a b e = end-mirrors t.classes (lowered t) (round mf mfs mws f fs ws) store mf.slots f.locals
       managers
       input 0 k rest e (once (mf ∷ mfs) mws (f ∷ fs) ws (EndAt k ∷ rest) a e)
-  item-moves mf mfs mws f fs ws (LeaveAt k) rest h a e = behind-moves mf mfs mws f fs ws (LeaveAt k) rest
-      (running-left t f fs ws (LeaveAt k) rest h (leave-other k)) h a e
-  item-moves mf mfs mws f fs ws Back rest h a e = behind-moves mf mfs mws f fs ws Back rest (running-left t f fs ws Back rest h back-other) h a e
+  item-moves mf mfs mws f fs ws (LeaveAt k) rest h a b e = behind-moves mf mfs mws f fs ws (LeaveAt k) rest
+      (running-left t f fs ws (LeaveAt k) rest h (leave-other k)) h a b e
+  item-moves mf mfs mws f fs ws (LeaveGiving line k x) rest h a b e = behind-moves mf mfs mws f fs ws (LeaveGiving line k x) rest
+      (running-left t f fs ws (LeaveGiving line k x) rest h (giving-other line k x)) h a b e
+  item-moves mf mfs mws f fs ws Back rest h a b e = behind-moves mf mfs mws f fs ws Back rest (running-left t f fs ws Back rest h back-other) h a b e
 
   -- a state that fits, with an item left
   pub all-move : (mfs : List Frame) (mws : List Window) (fs : List Body) (ws : List Opened) (items : List Item) → SomeLeft items
-      → FramesFit t fs ws items → Data t.classes store fs ws (length managers) made
+      → FramesFit t fs ws items → Data t.classes store fs ws (length managers) made → BridgesFit t.classes store fs ws
       → Showing mfs mws fs ws items → Moves mfs mws fs ws items
-  all-move mfs mws fs ws [] left frames a s = absurd left
-  all-move mfs mws [] ws (i ∷ rest) left frames a s = absurd frames
-  all-move [] mws (f ∷ fs) ws (i ∷ rest) left frames a s = absurd s.slots
-  all-move (mf ∷ mfs) mws (f ∷ fs) ws (i ∷ rest) left (inl h) a s = item-moves mf mfs mws f fs ws i rest h a s
-  all-move (mf ∷ mfs) mws (f ∷ fs) ws (i ∷ rest) left (inr h) a s = absurd (subst SomeLeft h.no_item left)
+  all-move mfs mws fs ws [] left frames a b s = absurd left
+  all-move mfs mws [] ws (i ∷ rest) left frames a b s = absurd frames
+  all-move [] mws (f ∷ fs) ws (i ∷ rest) left frames a b s = absurd s.slots
+  all-move (mf ∷ mfs) mws (f ∷ fs) ws (i ∷ rest) left (inl h) a b s = item-moves mf mfs mws f fs ws i rest h a b s
+  all-move (mf ∷ mfs) mws (f ∷ fs) ws (i ∷ rest) left (inr h) a b s = absurd (subst SomeLeft h.no_item left)

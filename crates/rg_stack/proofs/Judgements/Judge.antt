@@ -11,13 +11,14 @@ use Rattle.rg_base.specs.declared.object.Seen.{Seen}
 use Rattle.rg_base.specs.declared.fault.Code.TheVariants.{Unknown, Mismatch, Capability}
 use Rattle.rg_tree.specs.declared.rows.BinOp.{BinOp}
 use Rattle.rg_tree.specs.declared.rows.BinOp.TheVariants as op
-use Rattle.rg_tree.specs.Tree.{Name, Variable, Expr, number, boolean, nil, path, is_nil, neg, not, binary, StmtKind, stmt}
+use Rattle.rg_tree.specs.Tree.{Name, Variable, Expr, number, boolean, nil, path, is_nil, neg, not, binary, size, element, StmtKind, stmt}
 use Rattle.rg_tree.specs.Tree.{return, Block, empty as none, then as more_of, Class}
 use Rattle.rg_rules.specs.Answers.{◌>>=◌}
 use Rattle.rg_rules.specs.Capabilities.{is_iso, below, pause, adapt}
 use Rattle.rg_rules.specs.Types.{fields_of, field_place, field_type}
 use Rattle.rg_rules.specs.Environment.{Env, Entry, entry_of, seen_type, at_depth, available}
-use Rattle.rg_rules.specs.Paths.{Looked, look_up, read_through, walk_field, walk_fields, walk, all_but_last, last_field, walk_receiver}
+use Rattle.rg_rules.specs.Paths.{Looked, follow, walk_array, look_up, read_through, walk_field, walk_fields, walk, all_but_last, last_field}
+use Rattle.rg_rules.specs.Paths.{walk_receiver}
 use Rattle.rg_rules.specs.Expressions.{Judged, judge_path, judge_is_nil, logic, among, operand_type, result_type, judge_expr}
 use Rattle.rg_rules.specs.Statements.{judge_block, judge_kind, judge_stmt, last_of}
 use Rattle.rg_rules.specs.Bodies.{is_return, ends_in_return}
@@ -26,12 +27,13 @@ use Rattle.rg_rules.specs.State.{Local, value_in, Window as Opened}
 use Rattle.rg_rules.specs.Values.{as_bool, operate, decides, Computed}
 use Rattle.rg_rules.specs.Evaluation.{object_at, field_value, follow_fields, path_value, value_of}
 use Rattle.rg_rules.proofs.Answers.{bind-ok, then-ok, test-then, ok_or-ok}
-use Rattle.rg_rules.proofs.Path.{look_up-ok}
-use Rattle.rg_rules.proofs.Expression.{binary-ok, operands-not_iso, judge_expr-env}
+use Rattle.rg_rules.proofs.Path.{follow-ok, look_up-ok}
+use Rattle.rg_rules.proofs.Expression.{binary-ok, element-ok, number-not_iso, operands-not_iso, judge_expr-env, judge_expr-below}
+use Rattle.rg_sound.proofs.Values.Value.{Sees, walk-meets, value-meets}
 use Rattle.rg_code.specs.Lowering.{type_in, field_number, type_behind, type_along}
 use Rattle.rg_code.specs.Places.{scope_of}
 use Rattle.rg_stack.proofs.Basics.{ok-is, err-ok}
-use Rattle.rg_stack.proofs.Walks.Walk.{FollowsPath, IsTruth, Logic, Agrees}
+use Rattle.rg_stack.proofs.Walks.Walk.{FollowsPath, NotShut, IsTruth, Logic, Agrees}
 use Rattle.rg_stack.proofs.Walks.Place.{GoesOn, AllGoOn}
 use Rattle.rg_stack.proofs.Statements.Assign.{HolderOwes}
 use Rattle.rg_stack.proofs.Statements.Call.{Gives}
@@ -61,6 +63,8 @@ pub record Facts (classes : List Class) (env : Env) (store : List Seen) (windows
   -- a visible variable meets the type as which it is seen, and what isn't `iso` leads into no closed region
   pub opened : List Opened
   pub safe : Safe classes store windows opened
+  pub frame : ℕ
+  pub sees : Sees store opened frame env locals
   pub meets : (x : Variable) (e : Entry) → entry_of env x ≡ Some e → Meets store opened (seen_type env e) (value_in locals x)
 
 pause-class : (t : Ty) → class_is (pause t) ≡ class_is t
@@ -131,6 +135,15 @@ below-bool : (t : Ty) → below t Bool ≡ true → is_bool t ≡ true
 below-bool Int e = absurd (true≢false (sym e))
 below-bool Bool e = refl
 below-bool (Ref cap c) e = absurd (true≢false (sym e))
+
+-- a value that meets the type of truth values is one
+meets-truth : (store : List Seen) (ws : List Opened) (t : Ty) (v : Val) → is_bool t ≡ true → Meets store ws t v → v ≡ val.Bool (as_bool v)
+meets-truth store ws Int v b m = absurd (true≢false (sym b))
+meets-truth store ws (Ref cap c) v b m = absurd (true≢false (sym b))
+meets-truth store ws Bool val.Nil b m = absurd m
+meets-truth store ws Bool (val.Int z) b m = absurd m
+meets-truth store ws Bool (val.Bool t) b m = refl
+meets-truth store ws Bool (val.Obj a) b m = absurd m
 
 operated : (o : BinOp) (x y v : Val) → below (result_type (among o)) Bool ≡ true → operate o x y ≡ Ok v → v ≡ val.Bool (as_bool v)
 operated op.Or x y v b e = truth_is _ v e
@@ -226,6 +239,27 @@ module _ (classes : List Class) (env : Env) (store : List Seen) (windows : List 
       let r = walk-reaches x (f ∷ fs) p.0 v p.1 got in
       r.value.1 (sym r.bool ∙ ap is_bool is ∙ b)
 
+  -- an array to which the rules lead, and whose reference leads into no closed region
+  pub array-agrees : (x : Variable) (fs : List Name) (a : Looked) → walk_array classes env x fs ≡ Ok a
+      → FollowsPath classes store windows locals (scope_of locals) (record { base = x; fields = fs })
+      × NotShut store windows (path_value classes store locals (record { base = x; fields = fs }))
+  array-agrees x fs a h =
+      let t = bind-ok (walk classes env x fs) _ a h in
+      let r = bind-ok (follow t.0) _ a t.2 in (
+        walk-follows x fs t.0 t.1,
+        λ v got. facts.safe.shut t.0 v (walk-meets classes store facts.opened facts.frame env locals facts.safe.objects facts.sees x fs t.0 v t.1
+            got) (follow-ok t.0 r.0 r.1).not_iso,
+      )
+
+  -- what an expression computes to
+  pub expr-meets : (w : Option Ty) (e : Expr) (j : Judged) (v : Val) → judge_expr classes env w e ≡ Ok j → value_of classes store locals e ≡ Ok v
+      → Meets store facts.opened j.ty v
+  expr-meets w e j v h got = value-meets classes store facts.opened facts.frame env locals facts.safe.objects facts.sees w e j v h got
+
+  -- a number leads into no closed region
+  pub number-open : (e : Expr) (j : Judged) → judge_expr classes env (Some Int) e ≡ Ok j → NotShut store windows (value_of classes store locals e)
+  number-open e j h v got = facts.safe.shut j.ty v (expr-meets (Some Int) e j v h got) (number-not_iso classes env e j h)
+
   -- an expression of which a truth value is expected computes to one
   pub expr-truth : (e : Expr) (j : Judged) → judge_expr classes env (Some Bool) e ≡ Ok j → IsTruth (value_of classes store locals e)
   expr-truth (number z) j h v got = absurd (err-ok Mismatch j h)
@@ -238,6 +272,10 @@ module _ (classes : List Class) (env : Env) (store : List Seen) (windows : List 
   expr-truth (is_nil q) j h v got = let p = bind-ok (path_value classes store locals q) _ v got in truth_is _ v p.2
   expr-truth (neg a) j h v got = let p = bind-ok (judge_expr classes env (Some Int) a) _ j h in absurd (err-ok Mismatch j p.2)
   expr-truth (not a) j h v got = let p = bind-ok (value_of classes store locals a) _ v got in truth_is _ v p.2
+  expr-truth (size q) j h v got = let p = then-ok (walk_array classes env q.base q.fields) _ j h in absurd (err-ok Mismatch j p.2)
+  expr-truth (element q e) j h v got =
+      meets-truth store facts.opened j.ty v (below-bool j.ty (judge_expr-below classes env Bool (element q e) j h))
+      (expr-meets (Some Bool) (element q e) j v h got)
   expr-truth (binary o a b) j h v got =
       let p = binary-ok classes env (Some Bool) (among o) a b j h in
       let t = test-then (below (result_type (among o)) Bool) _ _ j p.last in
@@ -266,6 +304,11 @@ module _ (classes : List Class) (env : Env) (store : List Seen) (windows : List 
           expr-truth b p.r (subst (λ k. judge_expr classes env (operand_type k) b ≡ Ok p.r) is right),
         )),
       )
+  expr-agrees w (size q) j h = let p = then-ok (walk_array classes env q.base q.fields) _ j h in array-agrees q.base q.fields p.0 p.1
+  expr-agrees w (element q e) j h =
+      let p = element-ok classes env w q e j h in
+      let a = array-agrees q.base q.fields p.array p.walked in
+      (a.0, expr-agrees (Some Int) e p.index p.judged, a.1, number-open e p.index p.judged)
   expr-agrees w _ j h = tt
 
   -- the premises on the object that has a field

@@ -4,7 +4,7 @@ use Rattle.rg_base.specs.declared.fault.Code.TheVariants.{Unknown}
 use Rattle.rg_base.specs.declared.ty.Ty.{Ty}
 use Rattle.rg_base.specs.declared.words.Cap.TheVariants.{Mut}
 use Rattle.rg_tree.specs.Tree.{Name, Variable, ref, Right, new}
-use Rattle.rg_tree.specs.Tree.{StmtKind, declare, assign, Class}
+use Rattle.rg_tree.specs.Tree.{StmtKind, declare, assign, assign_element, Class}
 use Rattle.rg_rules.specs.Outside.Asks.{right_makes}
 use Rattle.rg_rules.specs.Capabilities.{is_iso, stays_at_depth}
 use Rattle.rg_rules.specs.Environment.{Env, at_depth, entry_of, is_lent, visible}
@@ -14,13 +14,14 @@ use Rattle.rg_rules.specs.Rights.{judge_right}
 use Rattle.rg_rules.specs.Statements.{is_call, judge_assign, judge_kind}
 use Rattle.rg_rules.specs.Types.{good_type}
 use Rattle.rg_rules.proofs.Answers.{at_line-ok, bind-ok, test-then}
+use Rattle.rg_sound.proofs.Frames.Judge.{judge_assign-element}
 use Rattle.rg_stack.specs.Dues.{kind_due, paced}
 use Rattle.rg_stack.proofs.Judgements.Owes.{named_class}
 use Rattle.rg_stack.proofs.Refusals.Tell.{right_due, written_due}
 
 right-written : (classes : List Class) (env : Env) (wanted : Ty) (r : Right) (j : Judged) → judge_right classes env wanted r ≡ Ok j
     → paced (right_makes classes r) ≡ right_due r
-right-written classes env wanted (new x) j h =
+right-written classes env wanted (new x many) j h =
     let t = bind-ok (good_type classes (ref Mut x)) _ j h in
     let k = named_class classes Mut x t.0 t.1 in
     ap (λ o. paced (is_some o)) k.1
@@ -50,4 +51,7 @@ kind-written classes last line env out (declare x t r) h =
     let j = bind-ok (judge_right classes env d.0 r) _ out d.2 in
     right-written classes env d.0 r j.0 j.1
 kind-written classes last line env out (assign p r) h = assign-written classes env out p.base p.fields r (at_line-ok line _ out h)
+kind-written classes last line env out (assign_element q e r) h =
+    let p = judge_assign-element classes env out q.base q.fields e r (at_line-ok line _ out h) in
+    right-written classes p.index.env p.array.ty r p.judged p.typed
 kind-written classes last line env out _ h = refl

@@ -23,16 +23,16 @@ use Rattle.rg_base.specs.declared.value.Val.TheVariants as val
 use Rattle.rg_tree.specs.Tree.{Name, Variable, ref, Expr, Right, value, new, new_tmp, new_iso, freeze, merge, read, more, result_of, Class, Tree}
 use Rattle.rg_rules.specs.Acceptance.{Accepted}
 use Rattle.rg_rules.specs.Answers.{◌>>=◌}
-use Rattle.rg_rules.specs.Capabilities.{is_iso, iso_class, below, printable, stays_at_depth}
-use Rattle.rg_rules.specs.Types.{good_type, fields_of, field_place}
+use Rattle.rg_rules.specs.Capabilities.{is_iso, iso_class, may_write, below, printable, stays_at_depth}
+use Rattle.rg_rules.specs.Types.{good_type, fields_of, field_place, element_type}
 use Rattle.rg_rules.specs.Environment.{Env, Entry, entry_of, at_depth, gone, marked, is_ready, is_lent}
 use Rattle.rg_rules.specs.Expressions.{Judged, judge_expr}
-use Rattle.rg_rules.specs.Rights.{judge_consumed, judge_right}
+use Rattle.rg_rules.specs.Rights.{judge_size, judge_new, judge_consumed, judge_right}
 use Rattle.rg_rules.specs.Statements.{is_call}
 use Rattle.rg_rules.specs.Items.{Item}
 use Rattle.rg_rules.specs.State.{Local, Target, Frame as Body, Window as Opened, State, place_in, top_locals}
-use Rattle.rg_rules.specs.Paths.{all_but_last, last_field, writable_field}
-use Rattle.rg_rules.specs.Evaluation.{object_at, path_value, value_of, uses, cleared}
+use Rattle.rg_rules.specs.Paths.{Looked, all_but_last, last_field, writable_field}
+use Rattle.rg_rules.specs.Evaluation.{object_at, element_place, path_value, value_of, uses, cleared}
 use Rattle.rg_rules.proofs.Answers.{bind-ok, test-then, ok_or-ok}
 use Rattle.rg_rules.proofs.Expression.{against-below}
 use Rattle.rg_sound.specs.Windows.{windows_of}
@@ -47,9 +47,10 @@ use Rattle.rg_sound.proofs.Stores.Freeze.{freeze-righted}
 use Rattle.rg_sound.proofs.Stores.Make.{new-righted, new_tmp-righted, new_iso-righted}
 use Rattle.rg_sound.proofs.Values.Assign.{RightGives, RightBelow, value-righted, more-righted, read-righted, value-below, read-below}
 use Rattle.rg_sound.proofs.Values.Assign.{more-below}
-use Rattle.rg_sound.proofs.Values.Value.{Sees, below-meets}
+use Rattle.rg_sound.proofs.Values.Value.{Sees, ArrayAt, below-meets}
 use Rattle.rg_sound.proofs.Stores.Field.{field-holds}
-use Rattle.rg_sound.proofs.Owners.Receiver.{IsTop, Receiver, receiver-at}
+use Rattle.rg_sound.proofs.Stores.Element.{element-holds}
+use Rattle.rg_sound.proofs.Owners.Receiver.{IsTop, writes-top, Receiver, receiver-at}
 use Rattle.rg_sound.proofs.Values.Right.{OwnsFreshAs, KeepsTop, Gives, expression-gives, ready-not_lent, below-iso}
 use Rattle.rg_code.specs.declared.op.Op.TheVariants as i
 use Rattle.rg_code.specs.Code.{Code}
@@ -57,14 +58,16 @@ use Rattle.rg_code.specs.Lowering.{slot_of, type_in, assign_op}
 use Rattle.rg_code.specs.Places.{scope_of}
 use Rattle.rg_stack.specs.Machine.{Window, Machine, slot_at, slots_below}
 use Rattle.rg_stack.specs.Shows.{ShowsFrames, ShowsWindows, sizes_of}
-use Rattle.rg_stack.specs.Needs.{needs, closed_of, is_closed, owned_once, owns_or_nil, loose, size_of, field_of, is_field, may_stand}
+use Rattle.rg_stack.specs.Needs.{needs, is_writable, closed_of, is_closed, owned_once, owns_or_nil, loose, size_of, field_of, is_field, may_stand}
 use Rattle.rg_stack.specs.Labels.{is_open}
 use Rattle.rg_stack.specs.Needs.{top_base, may_keep}
 use Rattle.rg_stack.proofs.Callers.Lead.{ShowsFit}
 use Rattle.rg_stack.proofs.Callers.Once.{owned_once-fits, loose-fits}
 use Rattle.rg_stack.proofs.Needs.Closed.{slot-closed, behind-closed, slot-owns, field-owns}
 use Rattle.rg_stack.proofs.Needs.Keep.{base-by, keep-here, keep-away, fresh-open, plain-open}
-use Rattle.rg_stack.proofs.Needs.Holder.{top-field, field-closed, may_stand-fits}
+use Rattle.rg_stack.proofs.Needs.Holder.{top-writable, top-field, field-closed, array-fields, element-closed, may_stand-fits}
+use Rattle.rg_stack.specs.Effects.{place_named}
+use Rattle.rg_stack.proofs.Walks.Index.{named-there}
 use Rattle.rg_stack.proofs.Callers.Need.{same}
 use Rattle.rg_stack.proofs.Walks.Slot.{ShowsSlots, slot_place}
 use Rattle.rg_stack.proofs.Walks.End.{Round, work, state}
@@ -76,9 +79,9 @@ use Rattle.rg_stack.proofs.Judgements.Use.{uses-up}
 -- a right side that makes no call
 righted : (right : Right) → is_call right ≡ false → RightGives right
 righted (value e) h = value-righted e
-righted (new x) h = new-righted x
-righted (new_tmp x) h = new_tmp-righted x
-righted (new_iso x m) h = new_iso-righted x m
+righted (new x many) h = new-righted x many
+righted (new_tmp x many) h = new_tmp-righted x many
+righted (new_iso x many m) h = new_iso-righted x many m
 righted (freeze y) h = freeze-righted y
 righted (merge y) h = merge-righted y
 righted read h = read-righted
@@ -93,15 +96,20 @@ consumed_below env wanted cap y j judged =
     let a = test-then (is_ready e.0.readiness) _ _ j c.2 in
     against-below wanted (Ref cap c.0) (marked (Some y) gone env) j a.1
 
+-- and so is that of what is made
+made_below : (classes : List Class) (env : Env) (wanted : Ty) (cap : Cap) (x : Name) (many : Option Expr) (j : Judged)
+    → judge_new classes env wanted cap x many ≡ Ok j → below j.ty wanted ≡ true
+made_below classes env wanted cap x many j judged =
+    let p = bind-ok (good_type classes (ref cap x)) _ j judged in
+    let out = bind-ok (judge_size classes env x many) _ j p.2 in
+    against-below wanted p.0 out.0 j out.2
+
 -- and so is that of each right side that makes no call
 pub right-below : (right : Right) → is_call right ≡ false → RightBelow right
 right-below (value e) h = value-below e
-right-below (new x) h = λ classes env wanted j judged.
-    let p = bind-ok (good_type classes (ref Mut x)) _ j judged in against-below wanted p.0 env j p.2
-right-below (new_tmp x) h = λ classes env wanted j judged.
-    let p = bind-ok (good_type classes (ref Tmp x)) _ j judged in against-below wanted p.0 env j p.2
-right-below (new_iso x m) h = λ classes env wanted j judged.
-    let p = bind-ok (good_type classes (ref Iso x)) _ j judged in against-below wanted p.0 env j p.2
+right-below (new x many) h = λ classes env wanted j judged. made_below classes env wanted Mut x many j judged
+right-below (new_tmp x many) h = λ classes env wanted j judged. made_below classes env wanted Tmp x many j judged
+right-below (new_iso x many m) h = λ classes env wanted j judged. made_below classes env wanted Iso x many j judged
 right-below (freeze y) h = λ classes env wanted j judged. consumed_below env wanted Imm y j judged
 right-below (merge y) h = λ classes env wanted j judged. consumed_below env wanted Mut y j judged
 right-below read h = read-below
@@ -362,24 +370,54 @@ printed-open m store ws (Ref cap c) v h meets = absurd (true≢false (sym h))
 
 module _ (classes : List Class) (code : Code) (m : Machine) (f : Body) (fs : List Body) (opened : List Opened)
     (d : ShowsFit classes m (f ∷ fs) opened) where
+  -- a value goes into a field of an object of the topmost window, over one that owns nothing
+  put_by : (a k : ℕ) (u v : Val) (o : Seen) (ty : Ty) → u ≡ val.Obj a → slice_get m.store a ≡ Some o → IsTop opened o.label
+      → is_field m k o ≡ true → is_closed m (field_of o k) ≡ false → is_iso ty ≡ false
+      → Meets m.store opened ty v → MeetsBy m.store (FieldFits opened o.label) ty v
+      → elim (object_at m.store u) [
+        | Ok o ↦ is_field m k o && not (is_closed m (field_of o k)) && may_stand m o.label v
+        | Err t ↦ false
+      ] ≡ true
+  put_by a k u v o ty leads there top field old iso meets fits =
+      let same : object_at m.store u ≡ Ok o = ap (object_at m.store) leads ∙ ap (λ q. ok_or q trap.Nil) there in
+      ap (λ (r : Result Seen Trap). elim r [
+        | Ok o ↦ is_field m k o && not (is_closed m (field_of o k)) && may_stand m o.label v
+        | Err t ↦ false
+      ]) same
+      ∙ and_from (is_field m k o && not (is_closed m (field_of o k))) (may_stand m o.label v)
+      (and_from (is_field m k o) (not (is_closed m (field_of o k))) field (not_from_false _ old))
+      (may_stand-fits classes m (f ∷ fs) opened d o.label ty v top meets fits iso)
+
+  -- a value goes into an element
+  pub element-put : (a k : ℕ) (u x v : Val) (o : Seen) (ty : Ty) → u ≡ val.Obj a → slice_get m.store a ≡ Some o → IsTop opened o.label
+      → element_place o x ≡ Ok k → is_closed m x ≡ false → element_type classes o.class ≡ Some ty → is_iso ty ≡ false
+      → Meets m.store opened ty v → MeetsBy m.store (FieldFits opened o.label) ty v
+      → needs code i.PutElement (v ∷ x ∷ u ∷ []) m ≡ true
+  element-put a k u x v o ty leads there top place index declared iso meets fits =
+      let n = place_named o x in
+      let field = and_from (is_writable m o.label) (nat_lt n (length o.fields)) (top-writable classes m (f ∷ fs) opened d o.label top)
+      (named-there o x k place) in
+      let same : object_at m.store u ≡ Ok o = ap (object_at m.store) leads ∙ ap (λ q. ok_or q trap.Nil) there in
+      let test : Seen → ℕ → Truth = λ o k. is_field m k o && not (is_closed m (field_of o k)) && may_stand m o.label v in
+      and_from (not (is_closed m x)) (elim (object_at m.store u) [ Ok o ↦ test o (place_named o x) | Err t ↦ false ])
+      (not_from_false (is_closed m x) index)
+      (ap (λ (r : Result Seen Trap). elim r [ Ok o ↦ test o (place_named o x) | Err t ↦ false ]) same
+      ∙ sym (ap (λ (r : Result Seen Trap). elim r [ Ok o ↦ test o n | Err t ↦ false ]) same)
+      ∙ put_by a n u v o ty leads there top field
+      (element-closed classes m (f ∷ fs) opened d a n o there top (array-fields classes m.store opened o (d.fits.objects a o there) ty declared)) iso
+      meets fits)
+
   -- a value goes into a field
   pub put-needs : (k : ℕ) (u v : Val) (o : Seen) (x : Name) (old : List Seen) (ty : Ty) (h : Receiver classes old opened u o x ty)
       → h.field.place ≡ k → slice_get m.store h.address ≡ Some o → is_iso ty ≡ false
       → Meets m.store opened ty v → MeetsBy m.store (FieldFits opened o.label) ty v
       → needs code (i.Put k) (v ∷ u ∷ []) m ≡ true
   put-needs k u v o x old ty h place there iso meets fits =
-      let same : object_at m.store u ≡ Ok o = ap (object_at m.store) h.value ∙ ap (λ q. ok_or q trap.Nil) there in
       let at = subst (λ n. slice_get o.fields n ≡ Some h.field.value) place h.field.value_is in
       let field = subst (λ n. slice_get (fields_of classes o.class) n ≡ Some h.field.field) place h.field.field_is in
-      ap (λ (r : Result Seen Trap). elim r [
-        | Ok o ↦ is_field m k o && not (is_closed m (field_of o k)) && may_stand m o.label v
-        | Err t ↦ false
-      ]) same
-      ∙ and_from (is_field m k o && not (is_closed m (field_of o k))) (may_stand m o.label v)
-      (and_from (is_field m k o) (not (is_closed m (field_of o k))) (top-field classes m (f ∷ fs) opened d k o h.field.value h.top at)
-      (not_from_false _ (field-closed classes m (f ∷ fs) opened d h.address k o h.field.field h.field.value there h.top field at
-      (ap is_iso h.field.type_is ∙ iso))))
-      (may_stand-fits classes m (f ∷ fs) opened d o.label ty v h.top meets fits iso)
+      put_by h.address k u v o ty h.value there h.top (top-field classes m (f ∷ fs) opened d k o h.field.value h.top at)
+      (field-closed classes m (f ∷ fs) opened d h.address k o h.field.field h.field.value there h.top field at (ap is_iso h.field.type_is ∙ iso)) iso
+      meets fits
 
   -- an owner reference in a field
   pub holder-field : (k : ℕ) (u : Val) (o : Seen) (x : Name) (ty : Ty) (h : Receiver classes m.store opened u o x ty) → h.field.place ≡ k
@@ -477,3 +515,20 @@ module _ (t : Tree) (r : Round) (store : List Seen) (slots : List Val) (locals :
       store wanted h
       (same_Some h.field.place k (sym h.field.place_is ∙ place)) there iso meets
       (field-holds t accepted store now r.opened o (last_field g gs) wanted v (c.fits.objects h.address o there) h.top h.field meets)
+
+  -- and so does an element
+  pub element-needs : Accepted t → (code : Code) (a : Looked) (ty : Ty) → below ty a.ty ≡ true → (u x : Val) (o : Seen) (k : ℕ)
+      → ArrayAt t.classes store r.opened u o a → may_write a.receiver ≡ true → element_place o x ≡ Ok k → Meets store r.opened Int x
+      → (now : List Seen) (after_slots : List Val) (after : List Local) (made : List Manager) (left : List ℕ) (v : Val)
+      → ShowsSlots after_slots after → Comes t r env ty store now after made v
+      → needs code i.PutElement (v ∷ x ∷ u ∷ []) (work r now after_slots made left).machine ≡ true
+  element-needs accepted code a ty b u x o k h writes place number now after_slots after made left v shows c =
+      let m = (work r now after_slots made left).machine in
+      let top = writes-top r.opened a.receiver o.label writes h.fits in
+      let there = c.keeps h.address o h.there top in
+      let meets = below-meets now r.opened ty a.ty v b c.meets in
+      let object = c.fits.objects h.address o there in
+      element-put t.classes code m (running r after) r.bodies r.opened
+      (shows_fit t r store slots locals managers input env begun now after_slots after made left c.fits shows) h.address k u x v o a.ty h.value there
+      top place (printed-open m store r.opened Int x refl number) h.declared h.elements.not_iso meets
+      (element-holds t accepted now r.opened o object a.ty v h.declared top meets)

@@ -1,35 +1,38 @@
 -- The premises of calls, right sides and entries, from the judgements of a statement and the invariant.
-use Rattle.std.proofs.Common.{◌≡◌, ℕ, suc, ◌+◌, ◌≤◌, true, false, true≢false, Bool as Truth, ◌&&◌, ◌==◌, if◌then◌else◌, List, [], ◌∷◌, length, map}
+use Rattle.std.proofs.Common.{◌≡◌, ℕ, zero, suc, ◌+◌, ◌≤◌, true, false, true≢false, Bool as Truth, ◌&&◌, ◌==◌, if◌then◌else◌, List, [], ◌∷◌, length}
+use Rattle.std.proofs.Common.{map}
 use Rattle.std.proofs.Common.{find, Option, Some, None, ok_or, Ok, refl, sym, ap, subst, ◌∙◌, arith, slice_get, unwrap_or}
-use Rattle.std.specs.Prelude.{bytes_eq, not, nat_lt, max, filter_map}
+use Rattle.std.specs.Prelude.{bytes_eq, not, nat_lt, max, filter_map, is_some}
 use Rattle.std.proofs.lemmas.Option.{same_Some, none-some}
 use Rattle.std.proofs.lemmas.List.{length-map}
-use Rattle.std.proofs.lemmas.Bool.{eqb-true}
+use Rattle.std.proofs.lemmas.Bool.{eqb-true, not-true}
 use Rattle.rg_base.specs.declared.words.Cap.{Cap}
 use Rattle.rg_base.specs.declared.words.Cap.TheVariants.{Mut, Tmp, Paused, Imm, Iso}
 use Rattle.rg_base.specs.declared.ty.Ty.{Ty}
 use Rattle.rg_base.specs.declared.ty.Ty.TheVariants.{Int, Bool, Ref}
 use Rattle.rg_base.specs.declared.value.Val.{Val}
 use Rattle.rg_base.specs.declared.object.Seen.{Seen}
-use Rattle.rg_base.specs.declared.fault.Code.TheVariants.{Unknown, Mismatch}
-use Rattle.rg_tree.specs.Tree.{Name, Variable, ref, Expr, number, boolean, nil, path, is_nil, neg, not as not_of, binary, Call, Right, value, new}
-use Rattle.rg_tree.specs.Tree.{new_tmp, new_iso, freeze, merge, read, more, result_of, method, Method, Class, Tree}
-use Rattle.rg_rules.specs.Capabilities.{pause, is_iso, iso_class, below}
-use Rattle.rg_rules.specs.Types.{class_named, good_type, method_member, members_of, method_named, param_types, method_result}
+use Rattle.rg_base.specs.declared.fault.Code.TheVariants.{Unknown, Mismatch, BadType}
+use Rattle.rg_tree.specs.Tree.{Name, Variable, Ty as Written, ref, Expr, number, boolean, nil, path, is_nil, neg, not as not_of, binary, size}
+use Rattle.rg_tree.specs.Tree.{element, Call, Right, value, new}
+use Rattle.rg_tree.specs.Tree.{new_tmp, new_iso, freeze, merge, read, more, result_of, Method, Class, Tree}
+use Rattle.rg_rules.specs.Capabilities.{is_iso, iso_class, below}
+use Rattle.rg_rules.specs.Types.{class_named, is_array, names_array, good_type, method_member, members_of, method_named, param_types, method_result}
 use Rattle.rg_rules.specs.Environment.{Env, Entry, Readiness, entry_of, seen_type, available, used, marked, marked_entry, gone, same_variable}
 use Rattle.rg_rules.specs.Items.{Item}
-use Rattle.rg_rules.specs.Paths.{walk, walk_field, walk_fields, look_up, follow}
+use Rattle.rg_rules.specs.Paths.{walk, walk_array, walk_field, walk_fields, look_up, follow}
 use Rattle.rg_rules.specs.Expressions.{Judged, judge_path, judge_is_nil, among, operand_type, result_type, judge_expr, nil_type}
-use Rattle.rg_rules.specs.Rights.{Called as CallJudged, judge_args, judge_call, judge_consumed, judge_right}
+use Rattle.rg_rules.specs.Rights.{Called as CallJudged, judge_args, judge_call, judge_size, judge_new, judge_consumed, judge_right}
 use Rattle.rg_rules.specs.Statements.{is_call}
 use Rattle.rg_rules.specs.State.{Local, value_in, Window as Opened}
 use Rattle.rg_stack.specs.Machine.{Window}
 use Rattle.rg_rules.specs.Evaluation.{object_at, path_value}
 use Rattle.rg_rules.proofs.Answers.{bind-ok, then-ok, test-then, ok_or-ok}
 use Rattle.rg_rules.proofs.Path.{follow-ok, look_up-ok}
-use Rattle.rg_rules.proofs.Expression.{against-ok, binary-ok}
-use Rattle.rg_sound.specs.Values.{Meets, FrameMeets}
+use Rattle.rg_rules.proofs.Expression.{against-ok, binary-ok, element-ok}
+use Rattle.rg_sound.specs.Values.{Meets}
 use Rattle.rg_sound.specs.Objects.{ObjectsFit}
+use Rattle.rg_sound.proofs.Values.Value.{Sees}
 use Rattle.rg_sound.specs.Frames.{Named}
 use Rattle.rg_code.specs.declared.op.Op.{Op}
 use Rattle.rg_code.specs.declared.code.Entry.{Entry as CodeEntry}
@@ -39,11 +42,11 @@ use Rattle.rg_code.specs.Places.{Stands, roomy, scope_of}
 use Rattle.rg_code.proofs.Method.{methods_among-is}
 use Rattle.rg_stack.proofs.Walks.Walk.{FollowsPath, is_shut}
 use Rattle.rg_stack.proofs.Walks.Argument.{AllAgree}
-use Rattle.rg_stack.proofs.Statements.Right.{InRegion, RightOwes}
+use Rattle.rg_stack.proofs.Statements.Right.{InRegion, NewOwes, RightOwes}
 use Rattle.rg_stack.proofs.Statements.Call.{BodyFits, Called}
 use Rattle.rg_stack.proofs.Walks.Entry.{entry_of as code_entry}
 use Rattle.rg_stack.proofs.Judgements.Follow.{class_is, read-class, field_of_type}
-use Rattle.rg_stack.proofs.Judgements.Judge.{seen-class, expr-agrees, walk-follows, walk-reaches}
+use Rattle.rg_stack.proofs.Judgements.Judge.{seen-class, expr-agrees, number-open, walk-follows, walk-reaches}
 use Rattle.rg_stack.proofs.Callers.Label.{by-labels}
 use Rattle.rg_stack.proofs.Judgements.Fit.{facts_of, variable-in_region}
 
@@ -102,55 +105,41 @@ expr-keeps P step classes env w (binary o a b) j h holds =
     still P j.env p.r.env (against-ok w (result_type (among o)) p.r.env j p.last).env_is
     (expr-keeps P step classes p.l.env (operand_type (among o)) b p.r p.operands.right
     (expr-keeps P step classes env (operand_type (among o)) a p.l p.operands.left holds))
+expr-keeps P step classes env w (size q) j h holds =
+    let p = then-ok (walk_array classes env q.base q.fields) _ j h in still P j.env env (against-ok w Int env j p.2).env_is holds
+expr-keeps P step classes env w (element q e) j h holds =
+    let p = element-ok classes env w q e j h in
+    still P j.env p.index.env (against-ok w p.ty p.index.env j p.last).env_is (expr-keeps P step classes env (Some Int) e p.index p.judged holds)
 
 pub expr-named : (classes : List Class) (env : Env) (ls : List Local) (w : Option Ty) (e : Expr) (j : Judged) → judge_expr classes env w e ≡ Ok j
     → Named env.entries ls → Named j.env.entries ls
 expr-named classes env ls w e j h named =
     expr-keeps (λ env. Named env.entries ls) (λ x env h. named-marked x gone env.entries ls h) classes env w e j h named
 
--- an entry that is found among marked ones was found with its type and its depth
-abbrev Found : Option Entry → Entry → Type 0
-Found there e = (o : Entry) × (there ≡ Some o) × (o.ty ≡ e.ty) × (o.depth ≡ e.depth)
-
-found-by : (c : Truth) (g f e : Entry) (late behind : Option Entry) → f.ty ≡ g.ty → f.depth ≡ g.depth → (late ≡ Some e → Found behind e)
-    → (if c then Some g else late) ≡ Some e → Found (if c then Some f else behind) e
-found-by true g f e late behind t d rest h = let same = same_Some g e h in (
-  f,
-  refl,
-  t ∙ ap (λ (e : Entry). e.ty) same,
-  d
-      ∙ ap (λ (e : Entry). e.depth) same,
-)
-found-by false g f e late behind t d rest h = rest h
-
-marked-found : (x y : Variable) (now : Readiness) (es : List Entry) (e : Entry)
-    → find (λ (e : Entry). same_variable e.name y) (map (marked_entry x now) es) ≡ Some e → Found (find (λ (e : Entry). same_variable e.name y) es) e
-marked-found x y now [] e h = absurd (none-some e h)
-marked-found x y now (f ∷ fs) e h = by (same_variable f.name x) (λ k. marked-found x y now fs e k) h
+-- an entry among marked ones was one at the same depth
+marked-at : (x : Variable) (now : Readiness) (es : List Entry) (i : ℕ) (e : Entry) → slice_get (map (marked_entry x now) es) i ≡ Some e
+    → (o : Entry) × (slice_get es i ≡ Some o) × (o.depth ≡ e.depth)
+marked-at x now [] i e h = absurd (none-some e h)
+marked-at x now (f ∷ fs) zero e h = (f, refl, by (same_variable f.name x) h)
   where
-    by : (b : Truth) → (find (λ (e : Entry). same_variable e.name y) (map (marked_entry x now) fs) ≡ Some e
-        → Found (find (λ (e : Entry). same_variable e.name y) fs) e)
-        → find (λ (e : Entry). same_variable e.name y) ((if b then record f { readiness = now } else f) ∷ map (marked_entry x now) fs) ≡ Some e
-        → Found (find (λ (e : Entry). same_variable e.name y) (f ∷ fs)) e
-    by true rest h = found-by (same_variable f.name y) (record f { readiness = now }) f e _ _ refl refl rest h
-    by false rest h = found-by (same_variable f.name y) f f e _ _ refl refl rest h
+    by : (b : Truth) → Some (if b then record f { readiness = now } else f) ≡ Some e → f.depth ≡ e.depth
+    by true h = ap (λ (e : Entry). e.depth) (same_Some (record f { readiness = now }) e h)
+    by false h = ap (λ (e : Entry). e.depth) (same_Some f e h)
+marked-at x now (f ∷ fs) (suc i) e h = marked-at x now fs i e h
 
--- visible variables meet the types as which they are seen
-abbrev pub SeenMeets : List Seen → List Opened → List Local → Env → Type 0
-SeenMeets store opened locals env = (x : Variable) (e : Entry) → entry_of env x ≡ Some e → Meets store opened (seen_type env e) (value_in locals x)
+-- what an environment sees it sees behind an expression
+marked-sees : (store : List Seen) (opened : List Opened) (n : ℕ) (locals : List Local) (x : Variable) (env : Env)
+    → Sees store opened n env locals → Sees store opened n (marked x gone env) locals
+marked-sees store opened n locals x env h = record {
+  named = named-marked x gone env.entries locals h.named;
+  values = h.values;
+  depth = λ i e there at. let o = marked-at x gone env.entries i e there in h.depth i o.0 o.1 (ap (λ d. d == env.depth) o.2 ∙ at);
+}
 
-marked-seen : (store : List Seen) (opened : List Opened) (locals : List Local) (x : Variable) (env : Env) → SeenMeets store opened locals env
-    → SeenMeets store opened locals (marked x gone env)
-marked-seen store opened locals x env h y e there =
-    let o = marked-found x y gone env.entries e there in
-    let P : Ty → ℕ → Type 0 = λ t d. Meets store opened (if d == env.depth then t else pause t) (value_in locals y) in
-    subst (λ d. P e.ty d) o.3 (subst (λ t. P t o.0.depth) o.2 (h y o.0 o.1))
-
-expr-seen : (classes : List Class) (store : List Seen) (opened : List Opened) (locals : List Local) (env : Env) (w : Option Ty) (e : Expr)
-    (j : Judged)
-    → judge_expr classes env w e ≡ Ok j → SeenMeets store opened locals env → SeenMeets store opened locals j.env
-expr-seen classes store opened locals env w e j h seen =
-    expr-keeps (SeenMeets store opened locals) (marked-seen store opened locals) classes env w e j h seen
+expr-sees : (classes : List Class) (store : List Seen) (opened : List Opened) (n : ℕ) (locals : List Local) (env : Env) (w : Option Ty) (e : Expr)
+    (j : Judged) → judge_expr classes env w e ≡ Ok j → Sees store opened n env locals → Sees store opened n j.env locals
+expr-sees classes store opened n locals env w e j h sees =
+    expr-keeps (λ env. Sees store opened n env locals) (marked-sees store opened n locals) classes env w e j h sees
 
 -- slots are enough where the number says so
 
@@ -244,22 +233,30 @@ pub named_class : (classes : List Class) (cap : Cap) (x : Name) (t : Ty) → goo
 named_class classes cap x t h = let p = bind-ok (ok_or (class_named classes x) Unknown) _ t h in
     (p.0, ok_or-ok (class_named classes x) Unknown p.0 p.1)
 
+-- whether a class is one of arrays
+
+none_is : (o : Option Written) → is_some o ≡ false → o ≡ None
+none_is None h = refl
+none_is (Some t) h = absurd (true≢false h)
+
+some_is : (o : Option Written) → is_some o ≡ true → (t : Written) × (o ≡ Some t)
+some_is None h = absurd (true≢false (sym h))
+some_is (Some t) h = (t, refl)
+
 module _ (classes : List Class) (store : List Seen) (windows : List Window) (opened : List Opened) (n : ℕ) (locals : List Local)
-    (meets : FrameMeets store opened n locals) (objects : ObjectsFit classes store opened)
+    (objects : ObjectsFit classes store opened)
     (shut : (t : Ty) (v : Val) → Meets store opened t v → is_iso t ≡ false → is_shut store windows v ≡ false) where
   -- arguments
-  pub args-agree : (ts : List Ty) (es : List Expr) (env out : Env) → Named env.entries locals → SeenMeets store opened locals env
-      → judge_args classes env ts es ≡ Ok out → length es
+  pub args-agree : (ts : List Ty) (es : List Expr) (env out : Env) → Sees store opened n env locals → judge_args classes env ts es ≡ Ok out → length es
       ≡ length ts → AllAgree classes store windows locals (scope_of locals) es
-  args-agree ts [] env out named seen h many = tt
-  args-agree [] (e ∷ es) env out named seen h many = absurd (omega (arith, many))
-  args-agree (t ∷ ts) (e ∷ es) env out named seen h many =
+  args-agree ts [] env out sees h many = tt
+  args-agree [] (e ∷ es) env out sees h many = absurd (omega (arith, many))
+  args-agree (t ∷ ts) (e ∷ es) env out sees h many =
       let p = bind-ok (judge_expr classes env (Some t) e) _ out h in
       let less : length es ≡ length ts = omega (arith, many) in (
-        expr-agrees classes env store windows locals (facts_of classes env store windows opened n locals named meets objects shut seen)
+        expr-agrees classes env store windows locals (facts_of classes env store windows opened n locals objects shut sees)
             (Some t) e p.0 p.1,
-        args-agree ts es p.0.env out (expr-named classes env locals (Some t) e p.0 p.1 named)
-            (expr-seen classes store opened locals env (Some t) e p.0 p.1 seen) p.2 less,
+        args-agree ts es p.0.env out (expr-sees classes store opened n locals env (Some t) e p.0 p.1 sees) p.2 less,
       )
 
   -- what a judged call gives: its method, by the class that the code names, and what its path and its arguments want
@@ -276,10 +273,9 @@ module _ (classes : List Class) (store : List Seen) (windows : List Window) (ope
     pub class : (v : Val) (o : Seen) → path_value classes store locals c.target ≡ Ok v → object_at store v ≡ Ok o → o.class
         ≡ target_class classes (scope_of locals) c
 
-  pub call-gives : (env : Env) (c : Call) (j : CallJudged) → Named env.entries locals → SeenMeets store opened locals env → judge_call classes env c
-      ≡ Ok j → CallGives env c j
-  call-gives env c j named seen h =
-      let facts = facts_of classes env store windows opened n locals named meets objects shut seen in
+  pub call-gives : (env : Env) (c : Call) (j : CallJudged) → Sees store opened n env locals → judge_call classes env c ≡ Ok j → CallGives env c j
+  call-gives env c j sees h =
+      let facts = facts_of classes env store windows opened n locals objects shut sees in
       let x = c.target.base in
       let fs = c.target.fields in
       let p = bind-ok (walk classes env x fs) _ j h in
@@ -308,30 +304,60 @@ module _ (classes : List Class) (store : List Seen) (windows : List Window) (ope
         arity = many;
         result = result;
         follows = walk-follows classes env store windows locals facts x fs p.0 p.1;
-        agrees = args-agree (param_types classes m.0) c.args env out.0 named seen out.1 (many ∙ sym (length-map m.0.params _));
+        agrees = args-agree (param_types classes m.0) c.args env out.0 sees out.1 (many ∙ sym (length-map m.0.params _));
         class = λ v o led is. same_Some o.class (target_class classes (scope_of locals) c)
             (sym ((walk-reaches classes env store windows locals facts x fs p.0 v p.1 led).value.0 o is) ∙ class_of_d ∙ ap Some (sym target));
       }
 
-  consumed-owes : (env : Env) (wanted : Ty) (cap : Cap) (y : Name) (j : Judged) → Named env.entries locals → judge_consumed env wanted cap y ≡ Ok j
-      → InRegion store (value_in locals (Some y))
-  consumed-owes env wanted cap y j named h =
+  consumed-owes : (env : Env) (wanted : Ty) (cap : Cap) (y : Name) (j : Judged) → Sees store opened n env locals
+      → judge_consumed env wanted cap y ≡ Ok j → InRegion store (value_in locals (Some y))
+  consumed-owes env wanted cap y j sees h =
       let p = bind-ok (ok_or (entry_of env (Some y)) Unknown) _ j h in
       let q = bind-ok (ok_or (iso_class p.0.ty) Mismatch) _ j p.2 in
       let iso = iso_type p.0.ty q.0 (ok_or-ok (iso_class p.0.ty) Mismatch q.0 q.1) in
-      variable-in_region env store opened n locals (Some y) p.0 named meets (ok_or-ok (entry_of env (Some y)) Unknown p.0 p.1) iso.0
+      variable-in_region env store opened n locals (Some y) p.0 sees.named sees.values (ok_or-ok (entry_of env (Some y)) Unknown p.0 p.1) iso.0
+
+  -- a class that is made, with its size
+  new-owes : (env : Env) (wanted : Ty) (cap : Cap) (x : Name) (many : Option Expr) (j : Judged) → Sees store opened n env locals
+      → judge_new classes env wanted cap x many ≡ Ok j → NewOwes classes store windows locals (scope_of locals) x many
+  new-owes env wanted cap x many j sees h =
+      let t = bind-ok (good_type classes (ref cap x)) _ j h in
+      let out = bind-ok (judge_size classes env x many) _ j t.2 in
+      let k = named_class classes cap x t.0 t.1 in
+      by many out.0 out.1 k.0 k.1
+    where
+      array : (k : Class) → class_named classes x ≡ Some k → names_array classes x ≡ is_some k.element
+      array k e = ap (λ (o : Option Class). elim o [ None ↦ false | Some c ↦ is_array c ]) e
+
+      by : (many : Option Expr) (out : Env) → judge_size classes env x many ≡ Ok out → (k : Class) → class_named classes x ≡ Some k
+          → NewOwes classes store windows locals (scope_of locals) x many
+      by None out h k e =
+          let s = test-then (not (names_array classes x)) BadType _ out h in
+          (k, e, none_is k.element (sym (array k e) ∙ not-true (names_array classes x) s.0))
+      by (Some e) out h k named =
+          let s = test-then (names_array classes x) BadType _ out h in
+          let p = bind-ok (judge_expr classes env (Some Int) e) _ out s.1 in
+          let facts = facts_of classes env store windows opened n locals objects shut sees in
+          let t = some_is k.element (sym (array k named) ∙ s.0) in (
+            expr-agrees classes env store windows locals facts (Some Int) e p.0 p.1,
+            number-open classes env store windows locals facts e p.0 p.1,
+            k,
+            named,
+            t.0,
+            t.1,
+          )
 
   -- a right side that makes no call
-  pub right-owes : (env : Env) (wanted : Ty) (right : Right) (j : Judged) → Named env.entries locals → SeenMeets store opened locals env
+  pub right-owes : (env : Env) (wanted : Ty) (right : Right) (j : Judged) → Sees store opened n env locals
       → judge_right classes env wanted right ≡ Ok j
       → is_call right ≡ false → RightOwes classes store windows locals (scope_of locals) right
-  right-owes env wanted (value e) j named seen h i = expr-agrees classes env store windows locals
-      (facts_of classes env store windows opened n locals named meets objects shut seen) (Some wanted) e j h
-  right-owes env wanted (new x) j named seen h i = let p = bind-ok (good_type classes (ref Mut x)) _ j h in named_class classes Mut x p.0 p.1
-  right-owes env wanted (new_tmp x) j named seen h i = let p = bind-ok (good_type classes (ref Tmp x)) _ j h in named_class classes Tmp x p.0 p.1
-  right-owes env wanted (new_iso x m) j named seen h i = let p = bind-ok (good_type classes (ref Iso x)) _ j h in named_class classes Iso x p.0 p.1
-  right-owes env wanted (freeze y) j named seen h i = (consumed-owes env wanted Imm y j named h, by-labels classes store opened objects)
-  right-owes env wanted (merge y) j named seen h i = consumed-owes env wanted Mut y j named h
-  right-owes env wanted read j named seen h i = tt
-  right-owes env wanted more j named seen h i = tt
-  right-owes env wanted (result_of c) j named seen h i = absurd (true≢false i)
+  right-owes env wanted (value e) j sees h i = expr-agrees classes env store windows locals
+      (facts_of classes env store windows opened n locals objects shut sees) (Some wanted) e j h
+  right-owes env wanted (new x many) j sees h i = new-owes env wanted Mut x many j sees h
+  right-owes env wanted (new_tmp x many) j sees h i = new-owes env wanted Tmp x many j sees h
+  right-owes env wanted (new_iso x many m) j sees h i = new-owes env wanted Iso x many j sees h
+  right-owes env wanted (freeze y) j sees h i = (consumed-owes env wanted Imm y j sees h, by-labels classes store opened objects)
+  right-owes env wanted (merge y) j sees h i = consumed-owes env wanted Mut y j sees h
+  right-owes env wanted read j sees h i = tt
+  right-owes env wanted more j sees h i = tt
+  right-owes env wanted (result_of c) j sees h i = absurd (true≢false i)

@@ -1,5 +1,5 @@
 -- No `enter` stands round a `return`, nor round the end of a method.
-use Rattle.std.proofs.Common.{◌≡◌, ℕ, arith, true, false, true≢false, List, [], ◌∷◌, ◌++◌, length, Option, Some, None, Ok, refl, sym, ap, subst, ◌∙◌}
+use Rattle.std.proofs.Common.{◌≡◌, ℕ, arith, true, false, true≢false, List, ◌∷◌, ◌++◌, length, Option, Some, None, Ok, refl, sym, ap, subst, ◌∙◌}
 use Rattle.std.specs.Result.{result_ok}
 use Rattle.std.specs.Prelude.{Bool as Truth, option_and_then}
 use Rattle.rg_base.specs.declared.ty.Ty.{Ty}
@@ -29,7 +29,8 @@ ends_block : (classes : List Class) (env : Env) (n line : ℕ) (k : StmtKind) (s
     → inner_block classes env k side ≡ Some i → leaves_frame (block_end n line k ++ more) ≡ false
 ends_block classes env n line (branch c b other) side i more e = refl
 ends_block classes env n line (while c b) side i more e = refl
-ends_block classes env n line (enter p z b) side i more e = refl
+ends_block classes env n line (enter p z b None) side i more e = refl
+ends_block classes env n line (enter p z b (Some w)) side i more e = refl
 ends_block classes env n line _ side i more e = grind arith
 
 from_ok : (classes : List Class) (last : Option Ty) (env : Env) (u : Stmt) (mid : Env) (go : Env → Option Spot) (s : Spot)

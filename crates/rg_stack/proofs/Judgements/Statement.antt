@@ -7,14 +7,15 @@ use Rattle.std.proofs.lemmas.Option.{none-some, same_Some}
 use Rattle.std.proofs.lemmas.List.{length-map, length-reverse}
 use Rattle.std.proofs.lemmas.Bool.{and_from, not-true, not_from_false}
 use Rattle.rg_base.specs.declared.ty.Ty.{Ty}
-use Rattle.rg_base.specs.declared.ty.Ty.TheVariants.{Bool}
+use Rattle.rg_base.specs.declared.ty.Ty.TheVariants.{Int, Bool}
 use Rattle.rg_base.specs.declared.value.Val.{Val}
 use Rattle.rg_base.specs.declared.object.Seen.{Seen}
 use Rattle.rg_base.specs.declared.object.Label.TheVariants.{Frozen}
 use Rattle.rg_base.specs.declared.words.Manager.{Manager}
 use Rattle.rg_base.specs.declared.fault.Code.TheVariants.{Unknown, Mismatch, Return}
 use Rattle.rg_tree.specs.Tree.{Name, Ty as Written, Variable, Path, Expr, Call, Right, value, new, new_tmp, new_iso, freeze, merge, read, more}
-use Rattle.rg_tree.specs.Tree.{result_of, stmt, StmtKind, declare, assign, call, swap, branch, while, enter, print, collect, return, Else, no_else}
+use Rattle.rg_tree.specs.Tree.{result_of, stmt, StmtKind, declare, assign, assign_element, call, swap, branch, while, enter, print, collect, return}
+use Rattle.rg_tree.specs.Tree.{Else, no_else}
 use Rattle.rg_tree.specs.Tree.{otherwise, Block, Method, Tree}
 use Rattle.rg_rules.specs.Answers.{at_line}
 use Rattle.rg_rules.specs.Acceptance.{Accepted}
@@ -32,12 +33,13 @@ use Rattle.rg_rules.specs.Evaluation.{object_at, path_value, value_of, uses, cle
 use Rattle.rg_rules.specs.Steps.{next}
 use Rattle.rg_rules.proofs.Answers.{bind-ok, test-then, ok_or-ok, at_line-ok}
 use Rattle.rg_rules.proofs.Acceptance.{Accepted-method}
-use Rattle.rg_rules.proofs.Expression.{judge_expr-below}
+use Rattle.rg_rules.proofs.Expression.{judge_expr-below, judge_expr-env, number-not_iso}
 use Rattle.rg_sound.specs.Values.{Meets, FrameMeets}
 use Rattle.rg_sound.specs.Objects.{ObjectsFit}
 use Rattle.rg_sound.proofs.Owners.Data.{Data}
 use Rattle.rg_sound.proofs.Values.Right.{OwnsFreshAs, below-iso, ready-not_lent}
-use Rattle.rg_sound.proofs.Values.Value.{seen-meets, below-meets}
+use Rattle.rg_sound.proofs.Values.Value.{value-meets, Sees, array-at, below-meets}
+use Rattle.rg_sound.proofs.Frames.Judge.{judge_assign-element}
 use Rattle.rg_sound.proofs.Values.Local.{fresh-as}
 use Rattle.rg_sound.specs.Frames.{Named, Running, with_target, assigned_call, call_of}
 use Rattle.rg_code.specs.Code.{Code}
@@ -58,24 +60,25 @@ use Rattle.rg_stack.proofs.Needs.Closed.{not_iso-closed, behind-closed}
 use Rattle.rg_stack.proofs.Needs.Keep.{base-by}
 use Rattle.rg_stack.proofs.Callers.Once.{owned_once-fits, loose-fits}
 use Rattle.rg_stack.proofs.Statements.Right.{RightOwes, RightNeeds}
-use Rattle.rg_stack.proofs.Statements.Assign.{declare-mirrors, assign-mirrors, put-mirrors}
+use Rattle.rg_stack.proofs.Statements.Assign.{declare-mirrors, assign-mirrors, put-mirrors, element-mirrors}
 use Rattle.rg_stack.proofs.Statements.Block.{branch-mirrors, branch-else-mirrors, while-mirrors, print-mirrors, collect-mirrors}
 use Rattle.rg_stack.proofs.Statements.Window.{swap-mirrors, enter-mirrors, enter-field-mirrors}
 use Rattle.rg_stack.proofs.Statements.Return.{TargetHas, TargetNeeds, above, return-mirrors}
 use Rattle.rg_stack.proofs.Statements.Call.{BodyFits, CallOwes, call-mirrors, declare-call-mirrors, assign-call-mirrors}
 use Rattle.rg_stack.proofs.Judgements.Follow.{class_is}
-use Rattle.rg_stack.proofs.Judgements.Judge.{Facts, expr-agrees, expr-truth, holder-follows, holder-owes, holder-type, block-goes_on}
+use Rattle.rg_stack.proofs.Judgements.Judge.{Facts, array-agrees, expr-agrees, expr-truth, holder-follows, holder-owes, holder-type}
+use Rattle.rg_stack.proofs.Judgements.Judge.{block-goes_on}
 use Rattle.rg_stack.proofs.Judgements.Judge.{block-gives}
 use Rattle.rg_stack.specs.Effects.{begins_by}
 use Rattle.rg_stack.proofs.Callers.Base.{as_many}
 use Rattle.rg_stack.proofs.Judgements.Base.{top-begins}
 use Rattle.rg_stack.proofs.Judgements.Fit.{facts_of, variable-in_region, variable-there, field-in_region, running-below}
-use Rattle.rg_stack.proofs.Judgements.Owes.{SeenMeets, call-gives, right-owes, callee_of, class_in, iso_type}
+use Rattle.rg_stack.proofs.Judgements.Owes.{call-gives, right-owes, callee_of, class_in, iso_type}
 use Rattle.rg_stack.proofs.Judgements.Use.{uses-up, args-up}
 use Rattle.rg_stack.proofs.Judgements.Middle.{sees_here, Begun, begun_of, running, shows_fit, right-below, fit_here, right-comes, value-comes}
 use Rattle.rg_stack.proofs.Judgements.Middle.{owner-needs, right-needs}
 use Rattle.rg_stack.proofs.Judgements.Middle.{receives, receiver-open, shown-room, printed-open, swap-needs, enter_field-needs}
-use Rattle.rg_stack.proofs.Judgements.Middle.{variable-needs, field-needs}
+use Rattle.rg_stack.proofs.Judgements.Middle.{variable-needs, field-needs, element-needs}
 use Rattle.rg_stack.proofs.Basics.{and-left}
 
 -- a method's body fits its result
@@ -122,12 +125,11 @@ module _ (t : Tree) (accepted : Accepted t) (r : Round) (store : List Seen) (slo
   shut f ty v meets iso = not_iso-closed t.classes (work r store slots managers input).machine (running r locals ∷ r.bodies) r.opened r.opened
       (fit_here t r store slots locals managers input env f.begun) (λ l o. o) ty v meets iso
 
-  seen : Fits → SeenMeets store r.opened locals env
-  seen f = seen-meets store r.opened (length r.bodies) env locals (sees_here t r store slots locals managers input env f.begun)
+  sees : Fits → Sees store r.opened (length r.bodies) env locals
+  sees f = sees_here t r store slots locals managers input env f.begun
 
   facts : Fits → Facts t.classes env store r.windows locals
-  facts f = facts_of t.classes env store r.windows r.opened (length r.bodies) locals f.named f.meets f.objects
-      (shut f) (seen f)
+  facts f = facts_of t.classes env store r.windows r.opened (length r.bodies) locals f.objects (shut f) (sees f)
 
   -- what an expression uses up
   up : Fits → (w : Option Ty) (e : Expr) (j : Judged) → judge_expr t.classes env w e ≡ Ok j
@@ -204,7 +206,7 @@ module _ (t : Tree) (accepted : Accepted t) (r : Round) (store : List Seen) (slo
       × CallOwes t.classes (lowered t) j rest r store slots locals c (target_class t.classes (scope_of locals) c) m e
       × (out.result ≡ method_result t.classes m)
   call-owes c out f judged =
-      let g = call-gives t.classes store r.windows r.opened (length r.bodies) locals f.meets f.objects (shut f) env c out f.named (seen f) judged in
+      let g = call-gives t.classes store r.windows r.opened (length r.bodies) locals f.objects (shut f) env c out (sees f) judged in
       let d = target_class t.classes (scope_of locals) c in
       let k = callee_of t j rest d c.method g.method g.named (body-fits t accepted d c.method g.method g.named) in (
         g.method,
@@ -233,9 +235,8 @@ module _ (t : Tree) (accepted : Accepted t) (r : Round) (store : List Seen) (slo
 
   owes-right : (ty : Ty) (right : Right) (out : _) → Fits → judge_right t.classes env ty right ≡ Ok out → is_call right ≡ false
       → RightOwes t.classes store r.windows locals (scope_of locals) right
-  owes-right ty right out f judged i = right-owes t.classes store r.windows r.opened (length r.bodies) locals f.meets f.objects
-      (shut f) env ty right out f.named (seen f)
-      judged i
+  owes-right ty right out f judged i =
+      right-owes t.classes store r.windows r.opened (length r.bodies) locals f.objects (shut f) env ty right out (sees f) judged i
 
   needs-right : (ty : Ty) (right : Right) (out : _) → Fits → judge_right t.classes env ty right ≡ Ok out
       → RightNeeds t.classes code r (scope_of locals) store slots locals managers input [] right
@@ -272,9 +273,9 @@ module _ (t : Tree) (accepted : Accepted t) (r : Round) (store : List Seen) (slo
   pub declare-judged : (x : Name) (ty : Written) (right : Right) (out : Env) → Fits → Showing (declare x ty right)
       → judge_kind t.classes None line env (declare x ty right) ≡ Ok out → Simulated (declare x ty right)
   declare-judged x ty (value e) out f h judged = declare_plain x ty (value e) out f h judged refl
-  declare-judged x ty (new k) out f h judged = declare_plain x ty (new k) out f h judged refl
-  declare-judged x ty (new_tmp k) out f h judged = declare_plain x ty (new_tmp k) out f h judged refl
-  declare-judged x ty (new_iso k m) out f h judged = declare_plain x ty (new_iso k m) out f h judged refl
+  declare-judged x ty (new k many) out f h judged = declare_plain x ty (new k many) out f h judged refl
+  declare-judged x ty (new_tmp k many) out f h judged = declare_plain x ty (new_tmp k many) out f h judged refl
+  declare-judged x ty (new_iso k many m) out f h judged = declare_plain x ty (new_iso k many m) out f h judged refl
   declare-judged x ty (freeze y) out f h judged = declare_plain x ty (freeze y) out f h judged refl
   declare-judged x ty (merge y) out f h judged = declare_plain x ty (merge y) out f h judged refl
   declare-judged x ty read out f h judged = declare_plain x ty read out f h judged refl
@@ -318,9 +319,9 @@ module _ (t : Tree) (accepted : Accepted t) (r : Round) (store : List Seen) (slo
   set-judged : (x : Variable) (right : Right) (out : Env) → Fits → Showing (assign (record { base = x; fields = [] }) right)
       → judge_assign t.classes env x [] right ≡ Ok out → Simulated (assign (record { base = x; fields = [] }) right)
   set-judged x (value e) out f h judged = set_plain x (value e) out f h judged refl
-  set-judged x (new k) out f h judged = set_plain x (new k) out f h judged refl
-  set-judged x (new_tmp k) out f h judged = set_plain x (new_tmp k) out f h judged refl
-  set-judged x (new_iso k m) out f h judged = set_plain x (new_iso k m) out f h judged refl
+  set-judged x (new k many) out f h judged = set_plain x (new k many) out f h judged refl
+  set-judged x (new_tmp k many) out f h judged = set_plain x (new_tmp k many) out f h judged refl
+  set-judged x (new_iso k many m) out f h judged = set_plain x (new_iso k many m) out f h judged refl
   set-judged x (freeze y) out f h judged = set_plain x (freeze y) out f h judged refl
   set-judged x (merge y) out f h judged = set_plain x (merge y) out f h judged refl
   set-judged x read out f h judged = set_plain x read out f h judged refl
@@ -362,6 +363,34 @@ module _ (t : Tree) (accepted : Accepted t) (r : Round) (store : List Seen) (slo
   pub assign-judged : (p : Path) (right : Right) (out : Env) → Fits → Showing (assign p right) → judge_kind t.classes None line env (assign p right)
       ≡ Ok out → Simulated (assign p right)
   assign-judged p right out f h judged = assign_by p.base p.fields right out f h (at_line-ok line _ out judged)
+
+  -- `q[e] = r;`
+  pub element-judged : (q : Path) (e : Expr) (right : Right) (out : Env) → Fits → Showing (assign_element q e right)
+      → judge_kind t.classes None line env (assign_element q e right) ≡ Ok out → Simulated (assign_element q e right)
+  element-judged q e right out f h judged =
+      let p = judge_assign-element t.classes env out q.base q.fields e right (at_line-ok line _ out judged) in
+      let same : p.index.env ≡ env =
+      judge_expr-env t.classes env (Some Int) e p.index p.index_typed (number-not_iso t.classes env e p.index p.index_typed) in
+      let typed = subst (λ m. judge_right t.classes m p.array.ty right ≡ Ok p.judged) same p.typed in
+      let known = facts f in
+      let array = array-agrees t.classes env store r.windows locals known q.base q.fields p.array p.walked in
+      let m = (work r store slots managers input).machine in
+      element-mirrors t.classes code r store slots locals managers input line j rest q e right h refl
+      (owes-right p.array.ty right p.judged f typed p.not_call) array.0
+      (expr-agrees t.classes env store r.windows locals known (Some Int) e p.index p.index_typed)
+      (λ u x o k led there got place.
+      let a = array-at t.classes store r.opened (length r.bodies) env locals f.objects (sees f) q.base q.fields p.array u o p.walked led there in
+      let number = below-meets store r.opened p.index.ty Int x (judge_expr-below t.classes env Int e p.index p.index_typed)
+      (value-meets t.classes store r.opened (length r.bodies) env locals f.objects (sees f) (Some Int) e p.index x p.index_typed got) in (
+        right-needs t r store slots locals managers input env f.begun code p.array.ty right p.judged (x ∷ u ∷ [])
+            (ap (λ b. b || (is_closed m u || false)) (printed-open m store r.opened Int x refl number) ∙ ap (λ b. b || false) (array.1 u led)) typed,
+        λ now after_slots after made left v s gave.
+            let c = right-comes t r store slots locals managers input env f.begun Drops right p.array.ty p.judged (j ∷ rest) typed p.not_call now after
+            made left v gave in
+            element-needs t r store slots locals managers input env f.begun accepted code p.array p.judged.ty
+            (right-below right p.not_call t.classes env p.array.ty p.judged typed) u x o k a p.writes place number now after_slots after made left v
+            s.shows c,
+      ))
 
   -- `swap y, q.f;`
   swap_by : (y : Name) (x : Variable) (fs : List Name) (out : Env) → Fits → Showing (swap y (record { base = x; fields = fs }))
@@ -407,14 +436,15 @@ module _ (t : Tree) (accepted : Accepted t) (r : Round) (store : List Seen) (slo
       let e : length (scope_of locals) ≡ length locals = length-map locals (λ (l : Local). record { name = l.name; ty = l.ty }) in omega (arith, e)
 
   -- `enter x as z { .. }` and `enter q.f as z { .. }`
-  enter_by : (x : Variable) (fs : List Name) (z : Name) (b : Block) (front : Env) → Fits → Showing (enter (record { base = x; fields = fs }) z b)
-      → judge_enter t.classes env x fs z ≡ Ok front → AllGoOn b → Simulated (enter (record { base = x; fields = fs }) z b)
-  enter_by x [] z b front f h judged goes =
+  enter_by : (x : Variable) (fs : List Name) (z : Name) (b : Block) (giving : Option Name) (front : Env) → Fits
+      → Showing (enter (record { base = x; fields = fs }) z b giving)
+      → judge_enter t.classes env x fs z ≡ Ok front → AllGoOn b → Simulated (enter (record { base = x; fields = fs }) z b giving)
+  enter_by x [] z b giving front f h judged goes =
       let e = bind-ok (ok_or (entry_of env x) Unknown) _ front judged in
       let c = bind-ok (ok_or (iso_class e.0.ty) Mismatch) _ front e.2 in
       let there = ok_or-ok (entry_of env x) Unknown e.0 e.1 in
       let iso = iso_type e.0.ty c.0 (ok_or-ok (iso_class e.0.ty) Mismatch c.0 c.1) in
-      enter-mirrors t.classes code r store slots locals managers input line j rest x z b h goes f.begins
+      enter-mirrors t.classes code r store slots locals managers input line j rest x z b giving h goes f.begins
       (λ o is. (
         variable-in_region env store r.opened (length r.bodies) locals x e.0 f.named f.meets there iso.0 o is,
         sym (class_in t.classes (type_in (scope_of locals) x) o.class
@@ -428,14 +458,14 @@ module _ (t : Tree) (accepted : Accepted t) (r : Round) (store : List Seen) (slo
       (owner-needs t r store slots locals managers input env f.begun x e.0 there iso.0 (ready-not_lent e.0.readiness ready.0)))
       (not_from_false _ (behind-closed t.classes m (running r locals) r.bodies r.opened (fit_here t r store slots locals managers input env f.begun)
       (length (scope_of locals)) behind)))
-  enter_by x (g ∷ gs) z b front f h judged goes =
+  enter_by x (g ∷ gs) z b giving front f h judged goes =
       let w = bind-ok (writable_field t.classes env x g gs) _ front judged in
       let c = bind-ok (ok_or (iso_class w.0) Mismatch) _ front w.2 in
       let k = bind-ok (walk_receiver t.classes env x g gs) _ w.0 w.1 in
       let m = test-then (may_write k.0.receiver) _ _ w.0 k.2 in
       let same : k.0.ty ≡ w.0 = grind arith in
       let iso = iso_type w.0 c.0 (ok_or-ok (iso_class w.0) Mismatch c.0 c.1) in
-      enter-field-mirrors t.classes code r store slots locals managers input line j rest x g gs z b h goes f.begins
+      enter-field-mirrors t.classes code r store slots locals managers input line j rest x g gs z b giving h goes f.begins
       (holder-follows t.classes env store r.windows locals (facts f) x g gs k.0 k.1)
       (holder-owes t.classes env store r.windows locals (facts f) x g gs k.0 k.1)
       (λ u o led there q is.
@@ -454,23 +484,24 @@ module _ (t : Tree) (accepted : Accepted t) (r : Round) (store : List Seen) (slo
             (sym h.field.place_is ∙ holder-owes t.classes env store r.windows locals (facts f) x g gs k.0 k.1 u o led there),
       )))
 
-  pub enter-judged : (p : Path) (z : Name) (b : Block) (out : Env) → Fits → Showing (enter p z b) → judge_kind t.classes None line env (enter p z b)
-      ≡ Ok out → Simulated (enter p z b)
-  enter-judged p z b out f h judged =
+  pub enter-judged : (p : Path) (z : Name) (b : Block) (giving : Option Name) (out : Env) → Fits → Showing (enter p z b giving)
+      → judge_kind t.classes None line env (enter p z b giving) ≡ Ok out → Simulated (enter p z b giving)
+  enter-judged p z b giving out f h judged =
       let e = bind-ok (at_line line (judge_enter t.classes env p.base p.fields z)) _ out judged in
       let q = bind-ok (judge_block t.classes None e.0 b) _ out e.2 in
-      enter_by p.base p.fields z b e.0 f h (at_line-ok line _ e.0 e.1) (block-goes_on t.classes b e.0 q.0 q.1)
+      enter_by p.base p.fields z b giving e.0 f h (at_line-ok line _ e.0 e.1) (block-goes_on t.classes b e.0 q.0 q.1)
 
   -- each statement but `return`, which may be the last one of its body
   pub statement-judged : (last : Option Ty) (k : StmtKind) (out : Env) → GoesOn k → Fits → Showing k → judge_kind t.classes last line env k ≡ Ok out
       → Simulated k
   statement-judged last (declare x ty right) out goes f h judged = declare-judged x ty right out f h judged
   statement-judged last (assign p right) out goes f h judged = assign-judged p right out f h judged
+  statement-judged last (assign_element q e right) out goes f h judged = element-judged q e right out f h judged
   statement-judged last (call c) out goes f h judged = call-judged c out f h judged
   statement-judged last (swap y p) out goes f h judged = swap-judged y p out f h judged
   statement-judged last (branch e b other) out goes f h judged = branch-judged e b other out f h judged
   statement-judged last (while e b) out goes f h judged = while-judged e b out f h judged
-  statement-judged last (enter p z b) out goes f h judged = enter-judged p z b out f h judged
+  statement-judged last (enter p z b giving) out goes f h judged = enter-judged p z b giving out f h judged
   statement-judged last (print e) out goes f h judged = print-judged e out f h judged
   statement-judged last collect out goes f h judged = collect-judged h
   statement-judged last (return e) out goes f h judged = absurd goes
@@ -547,9 +578,9 @@ return-judged t r slots under locals callers back target store managers input li
     let a = above r under callers back target in
     let here = fit_here t a store slots locals managers input env begun in
     return-mirrors t.classes (lowered t) r slots under locals callers back target store managers input line e j rest h
-    (expr-agrees t.classes env store r.windows locals (facts_of t.classes env store r.windows r.opened (suc (length r.bodies)) locals named meets
+    (expr-agrees t.classes env store r.windows locals (facts_of t.classes env store r.windows r.opened (suc (length r.bodies)) locals
     objects (λ ty v m iso. not_iso-closed t.classes (work a store slots managers input).machine (running a locals ∷ a.bodies) r.opened r.opened here
-    (λ l o. o) ty v m iso) (seen-meets store r.opened (suc (length r.bodies)) env locals (sees_here t a store slots locals managers input env begun)))
+    (λ l o. o) ty v m iso) (sees_here t a store slots locals managers input env begun))
     (Some w.0) e p.0 p.1) lower begins has
     (owned_once-fits t.classes (work a store slots managers input).machine (running a locals ∷ a.bodies) r.opened here)
     (uses-up t.classes store slots locals h.slots.0 env (Some w.0) e p.0 [] named p.1)

@@ -3,10 +3,11 @@ use Rattle.std.proofs.Common.{◌≡◌, true, false, Bool as Truth, if◌then�
 use Rattle.std.proofs.Common.{Ok, refl, sym, ap, subst, ◌∙◌, arith, unwrap_or, slice_get, append_assoc, ℕ}
 use Rattle.std.proofs.lemmas.List.{reverse-append}
 use Rattle.rg_base.specs.declared.ty.Ty.{Ty}
+use Rattle.rg_base.specs.declared.ty.Ty.TheVariants.{Int}
 use Rattle.rg_base.specs.declared.object.Seen.{Seen}
 use Rattle.rg_base.specs.declared.value.Val.{Val}
 use Rattle.rg_base.specs.declared.value.Val.TheVariants as val
-use Rattle.rg_tree.specs.Tree.{Variable, Expr, nil, path, Class}
+use Rattle.rg_tree.specs.Tree.{Variable, Expr, nil, path, element, Class}
 use Rattle.rg_rules.specs.Capabilities.{is_iso}
 use Rattle.rg_rules.specs.Environment.{Env}
 use Rattle.rg_rules.specs.Expressions.{Judged, judge_expr}
@@ -14,10 +15,11 @@ use Rattle.rg_rules.specs.Rights.{judge_args}
 use Rattle.rg_rules.specs.State.{Local, value_in}
 use Rattle.rg_rules.specs.Evaluation.{value_of, values_of, uses}
 use Rattle.rg_rules.proofs.Answers.{bind-ok}
+use Rattle.rg_rules.proofs.Expression.{element-ok, number-not_iso}
 use Rattle.rg_rules.proofs.Uses.{judge_expr-uses}
 use Rattle.rg_sound.specs.Frames.{Named}
 use Rattle.rg_sound.proofs.Frames.Named.{Named-iso}
-use Rattle.rg_sound.proofs.Values.Right.{IsoExpr, is_variable, is_none, iso-expr}
+use Rattle.rg_sound.proofs.Values.Right.{IsoExpr, is_variable, is_none, is_element, iso-expr}
 use Rattle.rg_code.specs.Lowering.{slot_of, type_in, used_slots, used_by_all}
 use Rattle.rg_code.specs.Places.{scope_of}
 use Rattle.rg_stack.proofs.Basics.{ok-is}
@@ -36,12 +38,16 @@ module _ (classes : List Class) (store : List Seen) (slots : List Val) (locals :
   none_up e stack none v got = subst (λ us. AllOnStack us slots (v ∷ stack))
       (sym (used-uses locals e ∙ ap (map (slot_of (scope_of locals))) none)) tt
 
-  iso_up : (env : Env) (j : Judged) (e : Expr) (stack : List Val) → IsoExpr classes env e j
-      → UsesUp classes store slots locals (scope_of locals) e stack
-  iso_up env j nil stack is_none = λ v got. tt
-  iso_up env j (path q) stack (is_variable {x = x} entry there iso ready ty) = λ v got.
+  iso_up : (env : Env) (w : Option Ty) (j : Judged) (e : Expr) (stack : List Val) → Named env.entries locals → judge_expr classes env w e ≡ Ok j
+      → IsoExpr classes env e j → UsesUp classes store slots locals (scope_of locals) e stack
+  iso_up env w j nil stack named typed is_none = λ v got. tt
+  iso_up env w j (path q) stack named typed (is_variable {x = x} entry there iso ready ty) = λ v got.
       variable_up x v stack (is_iso (type_in (scope_of locals) x)) (ok-is (value_in locals x) v got)
-  iso_up env j _ stack h = elim h [ ]
+  iso_up env w j (element q e) stack named typed (is_element _ _) =
+      let p = element-ok classes env w q e j typed in
+      none_up (element q e) stack (judge_expr-uses classes env locals (Named-iso env locals named) (Some Int) e p.index p.judged
+      (number-not_iso classes env e p.index p.judged))
+  iso_up env w j _ stack named typed h = elim h [ ]
 
   -- an expression
   pub uses-up : (env : Env) (w : Option Ty) (e : Expr) (j : Judged) (stack : List Val) → Named env.entries locals
@@ -50,7 +56,7 @@ module _ (classes : List Class) (store : List Seen) (slots : List Val) (locals :
     where
       by : (b : Truth) → is_iso j.ty ≡ b → UsesUp classes store slots locals (scope_of locals) e stack
       by false n = none_up e stack (judge_expr-uses classes env locals (Named-iso env locals named) w e j typed n)
-      by true n = iso_up env j e stack (iso-expr classes env w e j typed n)
+      by true n = iso_up env w j e stack named typed (iso-expr classes env w e j typed n)
 
   -- Arguments
 

@@ -24,10 +24,11 @@ use Rattle.rg_rules.specs.Owners.{owned_by_local, leads_into}
 use Rattle.rg_rules.specs.Values.{is_nil_value}
 use Rattle.rg_sound.specs.Windows.{windows_of, windows_from, IsOpen}
 use Rattle.rg_sound.specs.Values.{IsRegion, LabelFits, MeetsBy, Meets}
-use Rattle.rg_sound.specs.Objects.{TempFieldFits, FieldFits}
+use Rattle.rg_sound.specs.Objects.{TempFieldFits, FieldFits, FieldsMeet}
 use Rattle.rg_sound.specs.OpenRegions.{AllOwned}
 use Rattle.rg_sound.proofs.Basics.{none-some}
 use Rattle.rg_sound.proofs.Held.{slot-meets}
+use Rattle.rg_sound.proofs.Values.Declared.{declared-fields}
 use Rattle.rg_sound.proofs.Owners.Data.{NotOwner}
 use Rattle.rg_sound.proofs.Owners.Open.{IsOpenIn}
 use Rattle.rg_sound.proofs.Owners.Owner.{AllOwners, leads-top}
@@ -187,7 +188,10 @@ pub field-owns : (classes : List Class) (m : Machine) (bodies : List Body) (open
     (o : Seen) (f : Field) (v : Val) → slice_get m.store a ≡ Some o → IsTop opened o.label → slice_get (fields_of classes o.class) k ≡ Some f →
     slice_get o.fields k ≡ Some v → is_iso (type_of classes f.ty) ≡ true → owns_or_nil m (field_of o k) ≡ true
 field-owns classes m bodies opened d a k o f v there top field at iso =
-    let s = slot-meets classes m.store (FieldFits opened o.label) (fields_of classes o.class) o.fields k v (d.fits.objects a o there).fields at in
+    let fit = d.fits.objects a o there in
+    let F : List Field → Type 0 = λ q. FieldsMeet classes m.store (FieldFits opened o.label) q o.fields in
+    let fields : F (fields_of classes o.class) = subst F (declared-fields classes m.store opened o fit k f field) fit.fields in
+    let s = slot-meets classes m.store (FieldFits opened o.label) (fields_of classes o.class) o.fields k v fields at in
     let same : s.field ≡ f = same_Some s.field f (sym s.field_is ∙ field) in
     let P : Field → Type 0 = λ q. MeetsBy m.store (FieldFits opened o.label) (type_of classes q.ty) v in
     ap (λ q. owns_or_nil m (unwrap_or q val.Nil)) at

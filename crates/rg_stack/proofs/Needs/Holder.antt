@@ -13,13 +13,14 @@ use Rattle.rg_base.specs.declared.object.Label.TheVariants.{Region, Temp, Frozen
 use Rattle.rg_base.specs.declared.object.Seen.{Seen}
 use Rattle.rg_base.specs.declared.value.Val.{Val}
 use Rattle.rg_base.specs.declared.value.Val.TheVariants as val
-use Rattle.rg_tree.specs.Tree.{Field, Class}
+use Rattle.rg_base.specs.declared.object.Place.TheVariants as place
+use Rattle.rg_tree.specs.Tree.{Ty as Written, Field, Class}
 use Rattle.rg_rules.specs.Capabilities.{is_iso}
-use Rattle.rg_rules.specs.Types.{type_of, fields_of}
+use Rattle.rg_rules.specs.Types.{type_of, fields_of, element_type}
 use Rattle.rg_rules.specs.State.{Frame as Body, Window as Opened}
-use Rattle.rg_rules.specs.Regions.{region_of}
+use Rattle.rg_rules.specs.Regions.{region_of, owned_as, region_at}
 use Rattle.rg_sound.specs.Values.{MeetsBy, Meets}
-use Rattle.rg_sound.specs.Objects.{RegionFieldFits, FieldFits}
+use Rattle.rg_sound.specs.Objects.{RegionFieldFits, FieldFits, ArrayFits, ObjectFits}
 use Rattle.rg_sound.proofs.Basics.{none-some}
 use Rattle.rg_sound.proofs.Owners.Receiver.{IsTop, field-leads as leads-field}
 use Rattle.rg_stack.specs.Machine.{Window, Machine}
@@ -30,6 +31,8 @@ use Rattle.rg_stack.specs.Labels.{is_open, has_window, is_outside}
 use Rattle.rg_stack.proofs.Callers.Lead.{ShowsFit, not-closed, field-leads}
 use Rattle.rg_stack.proofs.Needs.Closed.{none-owned, not_iso-closed}
 use Rattle.rg_stack.proofs.Basics.{or-left}
+use Rattle.rg_sound.proofs.Values.Declared.{element-is, no-fields}
+use Rattle.rg_rules.specs.Owners.{owned_by_slot, owned_by_field, leads_into}
 
 top-shown : (sizes : List ℕ) (ws : List Window) (ps : List Opened) (l : Label) → ShowsWindows sizes ws ps → IsTop ps l →
     (l ≡ Region (top_region ws)) ⊎ (l ≡ Temp (top_window ws))
@@ -82,6 +85,45 @@ field-closed classes m bodies opened d a k o f v there top field at iso =
     ∙ not-closed m v (λ r c. none-owned m.store (type_of classes f.ty) v r iso
     (sym (leads-field classes m.store bodies opened a k o f v there top field at)
     ∙ field-leads classes m bodies opened d a k r o v there (top-outside classes m bodies opened d o.label top r c.closed) at c))
+
+-- an array's class has no fields
+pub array-fields : (classes : List Class) (store : List Seen) (opened : List Opened) (o : Seen) → ObjectFits classes store opened o → (t : Ty) →
+    element_type classes o.class ≡ Some t → fields_of classes o.class ≡ []
+array-fields classes store opened o fit t declared =
+    let e = element-is classes store opened o fit t declared in
+    let A : Option Written → Type 0 = λ q. ArrayFits fit.class q (length o.fields) in
+    let a : ArrayFits fit.class (Some e.0) (length o.fields) = subst A e.1 fit.array in no-fields classes o.class fit.class fit.class_is a.0
+
+-- so an element owns nothing
+pub element-closed : (classes : List Class) (m : Machine) (bodies : List Body) (opened : List Opened) → ShowsFit classes m bodies opened →
+    (a k : ℕ) (o : Seen) → slice_get m.store a ≡ Some o → IsTop opened o.label → fields_of classes o.class ≡ [] →
+    is_closed m (field_of o k) ≡ false
+element-closed classes m bodies opened d a k o there top none = by (slice_get o.fields k) refl
+  where
+    slot : owned_by_slot classes o k ≡ None
+    slot = ap (λ (fs : List Field). option_and_then (λ (f : Field). option_and_then (owned_as classes f) (slice_get o.fields k)) (slice_get fs k))
+        none
+
+    of_label : (l : Label) → ◌≡◌ {A = Option ℕ} (elim l [
+      | Region r ↦ owned_by_slot classes o k
+      | Temp n ↦ owned_by_slot classes o k
+      | Frozen ↦ None
+    ]) None
+    of_label (Region r) = slot
+    of_label (Temp n) = slot
+    of_label Frozen = refl
+
+    nowhere : leads_into classes m.store bodies (place.Field a k) ≡ None
+    nowhere =
+        ap (λ (q : Option Seen). option_and_then (region_at m.store) (option_and_then (λ (p : Seen). owned_by_field classes p k) q)) there
+        ∙ ap (option_and_then (region_at m.store)) (of_label o.label)
+
+    by : (q : Option Val) → slice_get o.fields k ≡ q → is_closed m (field_of o k) ≡ false
+    by None at = ap (λ q. is_closed m (unwrap_or q val.Nil)) at
+    by (Some v) at =
+        ap (λ q. is_closed m (unwrap_or q val.Nil)) at
+        ∙ not-closed m v (λ r c. none-some (sym nowhere
+        ∙ field-leads classes m bodies opened d a k r o v there (top-outside classes m bodies opened d o.label top r c.closed) at c))
 
 -- a value of the field's type may stand there
 

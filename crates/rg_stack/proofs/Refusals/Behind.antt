@@ -10,7 +10,7 @@ use Rattle.rg_tree.specs.Tree.{Block, empty as none, then as more_of, Method, Cl
 use Rattle.rg_rules.specs.Acceptance.{Accepted}
 use Rattle.rg_rules.specs.Types.{type_of, method_named}
 use Rattle.rg_rules.specs.Environment.{Env}
-use Rattle.rg_rules.specs.Items.{Item, Do, EndAt, LeaveAt, Back, items_of}
+use Rattle.rg_rules.specs.Items.{Item, Do, EndAt, LeaveAt, LeaveGiving, Back, items_of}
 use Rattle.rg_rules.specs.Statements.{judge_stmt, last_of}
 use Rattle.rg_rules.specs.Bodies.{is_return, last_is_return, ends_in_return, gives_result, method_body, method_end}
 use Rattle.rg_rules.specs.Points.{Point, here, behind, inside, Spot, Opened, Side, spot_in, spot_at, inner_block, block_end, entered_path}
@@ -166,6 +166,8 @@ calm-back classes code (Do (stmt line (return e)) ∷ j ∷ rest) l ls at leaves
 calm-back classes code (Do (stmt line _) ∷ rest) l ls at leaves h = calm-back classes code rest l ls _ leaves h.1
 calm-back classes code (EndAt k ∷ rest) l ls at leaves h = calm-back classes code rest (record l { scope = take k l.scope }) ls _ leaves h.2
 calm-back classes code (LeaveAt k ∷ rest) l ls at leaves h = calm-back classes code rest (record l { scope = take k l.scope }) ls _ leaves h.2
+calm-back classes code (LeaveGiving line k w ∷ rest) l ls at leaves h =
+    calm-back classes code rest (record l { scope = take k l.scope }) ls _ leaves h.1
 calm-back classes code (Back ∷ []) l ls at leaves h = absurd leaves
 calm-back classes code (Back ∷ j ∷ rest) l ls at leaves h = calm-lies classes code ls j rest l.back h.3
 

@@ -1,23 +1,25 @@
 -- A step's code asks for the input, and may collect, exactly where the first item does as it is written.
-use Rattle.std.proofs.Common.{◌≡◌, ℕ, ◌+◌, false, true≢false, inl, inr, List, [], ◌∷◌, Option, None, length, drop, take, refl, sym, ap, subst, ◌∙◌}
+use Rattle.std.proofs.Common.{◌≡◌, ℕ, ◌+◌, false, true≢false, inl, inr, List, [], ◌∷◌, Option, Some, None, length, drop, take, refl, sym, ap, subst}
+use Rattle.std.proofs.Common.{◌∙◌}
 use Rattle.std.proofs.Common.{arith, slice_get}
 use Rattle.rg_base.specs.declared.event.Cause.{Cause}
 use Rattle.rg_tree.specs.Tree.{stmt, StmtKind, declare, return, Class, Tree}
 use Rattle.rg_rules.specs.Bodies.{is_return}
 use Rattle.rg_rules.specs.Outside.Inputs.{first_asks}
-use Rattle.rg_rules.specs.Items.{Item, Do, EndAt, LeaveAt, Back}
+use Rattle.rg_rules.specs.Items.{Item, Do, EndAt, LeaveAt, LeaveGiving, Back}
 use Rattle.rg_rules.specs.State.{Frame as Body, Window as Opened}
 use Rattle.rg_sound.specs.Frames.{FramesFit}
 use Rattle.rg_code.specs.declared.op.Op.{Op}
 use Rattle.rg_code.specs.declared.op.Op.TheVariants as i
-use Rattle.rg_code.specs.Lowering.{scope_behind, kind_code}
+use Rattle.rg_code.specs.Lowering.{slot_of, scope_behind, kind_code}
 use Rattle.rg_code.specs.Places.{is_mark, behind_end, scope_of, Level, Lies}
 use Rattle.rg_stack.specs.Machine.{Frame}
 use Rattle.rg_stack.specs.Shows.{ShowsFrames, levels_of}
 use Rattle.rg_stack.specs.Left.{SomeLeft}
 use Rattle.rg_stack.proofs.Basics.{is_halt}
 use Rattle.rg_stack.proofs.Callers.Mark.{drop-stands, first-drop, lies_at_mark}
-use Rattle.rg_stack.proofs.Callers.Left.{do-other, leave-other, running-left}
+use Rattle.rg_stack.proofs.Callers.Left.{do-other, leave-other, giving-other, running-left}
+use Rattle.rg_stack.proofs.Refusals.Kind.{behind_first}
 use Rattle.rg_stack.proofs.Refusals.Plain.{tells, nothing}
 use Rattle.rg_stack.proofs.Refusals.Tell.{tells-mark, kind-tells, written_due}
 
@@ -61,6 +63,12 @@ module _ (classes : List Class) (code : List Op) where
       let two : at + 1 + 1 ≡ at + 2 = omega arith in
       ap tells (drop-stands code (at + 1) (i.Leave k ∷ []) h.1 ∙ ap (λ n. i.Leave k ∷ drop n code) two)
       ∙ lies-tells (record l { scope = take k l.scope } ∷ ls) j rest (at + 2) h.2
+  item-tells l ls (LeaveGiving line k w) [] at left h = absurd (left (giving-other line k w))
+  item-tells l ls (LeaveGiving line k w) (j ∷ rest) at left h =
+      let o = i.LeaveGiving (slot_of l.scope (Some w)) k in
+      let two : at + length (i.Mark line ∷ o ∷ []) ≡ at + 2 = omega arith in
+      ap tells (behind_first code at (i.Mark line) (o ∷ []) h.0 ∙ ap (λ n. o ∷ drop n code) two)
+      ∙ lies-tells (record l { scope = take k l.scope } ∷ ls) j rest (at + 2) h.1
   item-tells l ls Back rest at left h = ap tells (drop-stands code (at + 1) (i.RetVoid ∷ []) h.1)
 
 pub all-tells : (t : Tree) (code : List Op) (at : ℕ) (mfs : List Frame) (fs : List Body) (ws : List Opened) (items : List Item)

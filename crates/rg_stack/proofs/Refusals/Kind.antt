@@ -4,13 +4,15 @@ use Rattle.std.proofs.Common.{Some, None, refl, sym, ap, subst, ◌∙◌, arith
 use Rattle.std.proofs.lemmas.Bool.{and_from}
 use Rattle.std.proofs.lemmas.List.{drop-drop}
 use Rattle.rg_base.specs.declared.ty.Ty.{Ty}
-use Rattle.rg_tree.specs.Tree.{Name, Variable, Path, Expr, Right, stmt, StmtKind, declare, assign, call, swap, branch, while, enter, print, collect}
+use Rattle.rg_tree.specs.Tree.{Name, Variable, Path, Expr, Right, stmt, StmtKind, declare, assign, assign_element, call, swap, branch, while, enter}
+use Rattle.rg_tree.specs.Tree.{print, collect}
 use Rattle.rg_tree.specs.Tree.{return, Else, no_else, otherwise, Block, Class}
 use Rattle.rg_rules.specs.Capabilities.{is_iso}
 use Rattle.rg_rules.specs.Paths.{all_but_last}
-use Rattle.rg_rules.specs.Items.{Item, Do, EndAt, LeaveAt, Back}
+use Rattle.rg_rules.specs.Items.{Item, Do, EndAt, LeaveAt, LeaveGiving, Back}
 use Rattle.rg_code.specs.declared.op.Op.{Op}
 use Rattle.rg_code.specs.declared.op.Op.TheVariants as i
+use Rattle.rg_code.specs.Lowering.{path_code, expr_code, assign_element_code, scope_at_end, leave_op}
 use Rattle.rg_code.specs.Lowering.{Scope, slot_of, holder_code, held_number, right_code, pace_code, dropped_code, whole_code, call_code}
 use Rattle.rg_code.specs.Lowering.{call_result, assign_code, assign_op, swap_code, enter_code, scope_behind, scope_inside, block_code, kind_code}
 use Rattle.rg_code.specs.Places.{Stands, StandsIn, is_mark, behind_end, Level, Lies}
@@ -19,7 +21,8 @@ use Rattle.rg_stack.specs.Refusals.{calm, orderly}
 use Rattle.rg_stack.proofs.Callers.Mark.{drop-stands, first-drop, lies_at_mark}
 use Rattle.rg_stack.proofs.Walks.Place.{back_in, block_starts, GoesOn}
 use Rattle.rg_stack.proofs.Callers.Order.{calm-mark, calm-orderly}
-use Rattle.rg_stack.proofs.Refusals.Order.{Before, before-path, Quiet, quiet-append, quiet-whole, quiet-call, quiet-right, calm-pace}
+use Rattle.rg_stack.proofs.Refusals.Order.{before-path, before-check, before-index, Quiet, quiet-append, quiet-whole, quiet-call}
+use Rattle.rg_stack.proofs.Refusals.Order.{quiet-right, calm-pace}
 use Rattle.rg_stack.proofs.Refusals.Order.{calm-assign}
 
 -- what lies somewhere is calm
@@ -35,14 +38,6 @@ behind_first code at o ops h = sym (drop-drop 1 at code) ∙ ap (drop 1) (drop-s
 
 module _ (classes : List Class) (code : List Op) where
   -- statements without blocks
-  holder-check : (scope : Scope) (x : Variable) (f : Name) (fs : List Name) (at : ℕ)
-      → Before code at (holder_code classes scope x f fs ++ i.Check ∷ [])
-  holder-check scope x f fs at rest h =
-      let path = holder_code classes scope x f fs in
-      let n : at + length path + 1 ≡ at + length (path ++ i.Check ∷ []) = omega (arith, length-append path (i.Check ∷ [])) in
-      ap (orderly code at false) (append_assoc path (i.Check ∷ []) rest)
-      ∙ before-path code classes scope x (all_but_last f fs) at (i.Check ∷ rest) (subst (λ k. orderly code k false rest ≡ true) (sym n) h)
-
   quiet-declare : (scope : Scope) (at slot : ℕ) (r : Right) → Quiet code at (right_code classes scope at r ++ i.Store slot ∷ pace_code r)
   quiet-declare scope at slot r rest h =
       let ops = right_code classes scope at r in
@@ -60,9 +55,22 @@ module _ (classes : List Class) (code : List Op) where
       let here = at + length holder in
       let ops = right_code classes scope here r in
       let last = i.Put (held_number classes scope x f fs) ∷ pace_code r in
-      quiet-append code holder (ops ++ last) at (holder-check scope x f fs at)
+      quiet-append code holder (ops ++ last) at (before-check code classes scope x (all_but_last f fs) at)
       (λ more e. ap (orderly code here false) (append_assoc ops last more)
       ∙ quiet-right code classes scope here r (last ++ more) (calm-pace code r more e)) rest h
+
+  quiet-element : (scope : Scope) (at : ℕ) (q : Path) (e : Expr) (r : Right) → Quiet code at (assign_element_code classes scope at q e r)
+  quiet-element scope at q e r =
+      let array = path_code classes scope q.base q.fields ++ i.Check ∷ [] in
+      let middle = at + length array in
+      let index = expr_code classes scope middle e ++ i.Bound ∷ [] in
+      let here = middle + length index in
+      let ops = right_code classes scope here r in
+      let last = i.PutElement ∷ pace_code r in
+      quiet-append code array (index ++ (ops ++ last)) at (before-check code classes scope q.base q.fields at)
+      (quiet-append code index (ops ++ last) middle (before-index code classes scope middle e)
+      (λ rest h. ap (orderly code here false) (append_assoc ops last rest)
+      ∙ quiet-right code classes scope here r (last ++ rest) (calm-pace code r rest h)))
 
   calm-dropped : (t : Option Ty) (rest : List Op) → calm code false rest ≡ true → calm code false (dropped_code t ++ rest) ≡ true
   calm-dropped None rest h = h
@@ -190,17 +198,17 @@ module _ (classes : List Class) (code : List Op) where
   quiet-orderly at line ops q h ends = ap (orderly code (at + 1) false) (behind_first code at (i.Mark line) ops h)
       ∙ q (drop (at + length (i.Mark line ∷ ops)) code) ends
 
-  enter-quiet : (scope : Scope) (at line : ℕ) (p : Path) (z : Name) (b : Block)
+  enter-quiet : (scope : Scope) (at line : ℕ) (p : Path) (z : Name) (b : Block) (closing : List Op)
       → Quiet code at (let front = enter_code classes scope p.base p.fields in front
-      ++ (block_code classes (scope_inside classes scope p z) (at + length front) b ++ i.Mark line ∷ i.Leave (length scope) ∷ []))
-  enter-quiet scope at line p z b rest h =
+      ++ (block_code classes (scope_inside classes scope p z) (at + length front) b ++ i.Mark line ∷ closing))
+  enter-quiet scope at line p z b closing rest h =
       let front = enter_code classes scope p.base p.fields in
       let block = block_code classes (scope_inside classes scope p z) (at + length front) b in
-      let closing = i.Mark line ∷ i.Leave (length scope) ∷ [] in
-      ap (orderly code at false) (append_assoc front (block ++ closing) rest)
-      ∙ quiet-enter scope at p.base p.fields ((block ++ closing) ++ rest)
-      (calm-mark code false ((block ++ closing) ++ rest) (ap (λ l. is_mark (slice_get l 0)) (append_assoc block closing rest)
-      ∙ block_starts classes (scope_inside classes scope p z) (at + length front) line b (i.Leave (length scope) ∷ rest)))
+      let last = i.Mark line ∷ closing in
+      ap (orderly code at false) (append_assoc front (block ++ last) rest)
+      ∙ quiet-enter scope at p.base p.fields ((block ++ last) ++ rest)
+      (calm-mark code false ((block ++ last) ++ rest) (ap (λ l. is_mark (slice_get l 0)) (append_assoc block last rest)
+      ∙ block_starts classes (scope_inside classes scope p z) (at + length front) line b (closing ++ rest)))
 
   kind-orderly : (l : Level) (at line : ℕ) (k : StmtKind) → GoesOn k → StandsIn code l at (kind_code classes l.scope at line k)
       → is_mark (slice_get code (at + length (kind_code classes l.scope at line k))) ≡ true
@@ -211,6 +219,8 @@ module _ (classes : List Class) (code : List Op) where
       (quiet-declare l.scope (at + 1) (length l.scope) r) h.0 quiet
   kind-orderly l at line (assign p r) g h ends quiet = quiet-orderly at line (assign_code classes l.scope (at + 1) p.base p.fields r)
       (quiet-assign l.scope (at + 1) p.base p.fields r) h.0 quiet
+  kind-orderly l at line (assign_element q e r) g h ends quiet = quiet-orderly at line (assign_element_code classes l.scope (at + 1) q e r)
+      (quiet-element l.scope (at + 1) q e r) h.0 quiet
   kind-orderly l at line (call c) g h ends quiet =
       let ops = call_code classes l.scope (at + 1) c in
       let result = call_result classes l.scope c in
@@ -221,10 +231,12 @@ module _ (classes : List Class) (code : List Op) where
       (quiet-swap l.scope (at + 1) y p.base p.fields) h.0 quiet
   kind-orderly l at line (branch e b other) g h ends quiet = branch-orderly l at line e b other h ends
   kind-orderly l at line (while e b) g h ends quiet = while-orderly l at line e b h ends
-  kind-orderly l at line (enter p z b) g h ends quiet =
+  kind-orderly l at line (enter p z b giving) g h ends quiet =
       let front = enter_code classes l.scope p.base p.fields in
-      quiet-orderly at line (front ++ (block_code classes (scope_inside classes l.scope p z) (at + 1 + length front) b
-      ++ i.Mark line ∷ i.Leave (length l.scope) ∷ [])) (enter-quiet l.scope (at + 1) line p z b) h.0 quiet
+      let inside = scope_inside classes l.scope p z in
+      let closing = leave_op (scope_at_end classes inside b) (length l.scope) giving ∷ [] in
+      quiet-orderly at line (front ++ (block_code classes inside (at + 1 + length front) b ++ i.Mark line ∷ closing))
+      (enter-quiet l.scope (at + 1) line p z b closing) h.0 quiet
   kind-orderly l at line (print e) g h ends quiet =
       let whole = whole_code classes l.scope (at + 1) e in
       quiet-orderly at line (whole ++ i.Print ∷ []) (λ rest c. ap (orderly code (at + 1) false) (append_assoc whole (i.Print ∷ []) rest)
@@ -281,6 +293,14 @@ module _ (classes : List Class) (code : List Op) where
       let two : at + 1 + 1 ≡ at + 2 = omega arith in
       ap (orderly code (at + 1) false) (drop-stands code (at + 1) (i.Leave k ∷ []) h.1 ∙ ap (λ n. i.Leave k ∷ drop n code) two)
       ∙ calm-lies classes code (record l { scope = take k l.scope } ∷ ls) j rest (at + 2) h.2
+
+  pub leave-giving-orderly : (l : Level) (ls : List Level) (line k : ℕ) (w : Name) (j : Item) (rest : List Item) (at : ℕ)
+      → Lies classes code (l ∷ ls) (LeaveGiving line k w ∷ j ∷ rest) at → orderly code (at + 1) false (drop (at + 1) code) ≡ true
+  leave-giving-orderly l ls line k w j rest at h =
+      let o = i.LeaveGiving (slot_of l.scope (Some w)) k in
+      let two : at + length (i.Mark line ∷ o ∷ []) ≡ at + 2 = omega arith in
+      ap (orderly code (at + 1) false) (behind_first code at (i.Mark line) (o ∷ []) h.0 ∙ ap (λ n. o ∷ drop n code) two)
+      ∙ calm-lies classes code (record l { scope = take k l.scope } ∷ ls) j rest (at + 2) h.1
 
   pub back-orderly : (l : Level) (ls : List Level) (rest : List Item) (at : ℕ) → Lies classes code (l ∷ ls) (Back ∷ rest) at
       → orderly code (at + 1) false (drop (at + 1) code) ≡ true

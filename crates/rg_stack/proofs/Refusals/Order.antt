@@ -1,21 +1,22 @@
 -- The code of expressions, calls and right sides is orderly in front of what is calm.
-use Rattle.std.proofs.Common.{◌≡◌, ℕ, ◌+◌, ◌-◌, true, false, Bool as Truth, if◌then◌else◌, List, [], ◌∷◌, ◌++◌, length, refl, ap, subst, ◌∙◌, arith}
+use Rattle.std.proofs.Common.{◌≡◌, ℕ, ◌+◌, ◌-◌, true, false, Bool as Truth, if◌then◌else◌, List, [], ◌∷◌, ◌++◌, Option, Some, None, length, refl}
+use Rattle.std.proofs.Common.{ap, subst, ◌∙◌, arith}
 use Rattle.std.proofs.Common.{append_assoc, length-append}
 use Rattle.std.proofs.lemmas.Bool.{and_from}
 use Rattle.rg_base.specs.declared.ty.Ty.{Ty}
 use Rattle.rg_tree.specs.declared.rows.BinOp.{BinOp}
 use Rattle.rg_tree.specs.declared.rows.BinOp.TheVariants as op
-use Rattle.rg_tree.specs.Tree.{Name, Variable, Expr, number, boolean, nil, path, is_nil, neg, not, binary, Call, Right, value}
-use Rattle.rg_tree.specs.Tree.{more, result_of, Class}
+use Rattle.rg_tree.specs.Tree.{Name, Variable, Expr, number, boolean, nil, path, is_nil, neg, not, binary, size, element, Call, Right, value}
+use Rattle.rg_tree.specs.Tree.{new, new_tmp, new_iso, more, result_of, Class}
 use Rattle.rg_rules.specs.Capabilities.{is_iso}
 use Rattle.rg_code.specs.declared.op.Op.{Op}
 use Rattle.rg_code.specs.declared.op.Op.TheVariants as i
 use Rattle.rg_code.specs.Lowering.{Scope, slot_of, type_in, field_number, type_behind, fields_code, path_code, gap, operator_code, expr_code}
 use Rattle.rg_code.specs.Lowering.{exprs_code, used_slots, used_by_all, clears, whole_code, number_called, target_class, call_code, right_code}
-use Rattle.rg_code.specs.Lowering.{pace_code, assign_op}
+use Rattle.rg_code.specs.Lowering.{new_code, pace_code, assign_op}
 use Rattle.rg_stack.proofs.Callers.Order.{calm-orderly}
 use Rattle.rg_stack.proofs.Basics.{and-left, and-right}
-use Rattle.rg_stack.specs.Refusals.{Computes, Passes, manner, room_behind, calm, all_compute, orderly_by, orderly}
+use Rattle.rg_stack.specs.Refusals.{Takes, Computes, Passes, manner, room_behind, calm, all_compute, orderly_by, orderly}
 
 -- what an expression's code consists of
 
@@ -64,6 +65,14 @@ compute-expr classes scope at (binary o a b) =
     let right = expr_code classes scope middle b in
     compute-append left (operator_code o (middle + length right) right) (compute-expr classes scope at a)
     (compute-operator o (middle + length right) right (compute-expr classes scope middle b))
+compute-expr classes scope at (size q) = compute-append (path_code classes scope q.base q.fields) (i.Size ∷ [])
+    (compute-path classes scope q.base q.fields) refl
+compute-expr classes scope at (element q e) =
+    let front = path_code classes scope q.base q.fields in
+    let array = front ++ i.Check ∷ [] in
+    let index = expr_code classes scope (at + length array) e in
+    compute-append array (index ++ (i.Bound ∷ i.Element ∷ [])) (compute-append front (i.Check ∷ []) (compute-path classes scope q.base q.fields) refl)
+    (compute-append index (i.Bound ∷ i.Element ∷ []) (compute-expr classes scope (at + length array) e) refl)
 compute-expr classes scope at _ = refl
 
 module _ (code : List Op) where
@@ -108,6 +117,10 @@ module _ (code : List Op) where
   before-path classes scope x fs at = before-append (i.Load (slot_of scope x) ∷ []) (fields_code classes (type_in scope x) fs) at
       (before-one (i.Load (slot_of scope x)) refl at) (before-fields classes (type_in scope x) fs (at + 1))
 
+  pub before-check : (classes : List Class) (scope : Scope) (x : Variable) (fs : List Name) (at : ℕ)
+      → Before at (path_code classes scope x fs ++ i.Check ∷ [])
+  before-check classes scope x fs at = before-more i.Check refl (path_code classes scope x fs) at (before-path classes scope x fs at)
+
   at_once : (at : ℕ) (ops : List Op) → Before (at + 0) ops → Before at ops
   at_once at ops h = let same : at + 0 ≡ at = omega arith in subst (λ k. Before k ops) same h
 
@@ -143,6 +156,20 @@ module _ (code : List Op) where
       before-append left (operator_code o (middle + length right) right) at (before-expr classes scope at a)
       (before-operator o (at + length left) (middle + length right) right refl (compute-expr classes scope middle b)
       (before-expr classes scope middle b))
+  before-expr classes scope at (size q) = before-more i.Size refl (path_code classes scope q.base q.fields) at
+      (before-path classes scope q.base q.fields at)
+  before-expr classes scope at (element q e) =
+      let array = path_code classes scope q.base q.fields ++ i.Check ∷ [] in
+      let middle = at + length array in
+      let index = expr_code classes scope middle e in
+      before-append array (index ++ (i.Bound ∷ i.Element ∷ [])) at (before-check classes scope q.base q.fields at)
+      (before-append index (i.Bound ∷ i.Element ∷ []) middle (before-expr classes scope middle e)
+      (before-append (i.Bound ∷ []) (i.Element ∷ []) (middle + length index) (before-one i.Bound refl (middle + length index))
+      (before-one i.Element refl (middle + length index + 1))))
+
+  -- an index, which is tested
+  pub before-index : (classes : List Class) (scope : Scope) (at : ℕ) (e : Expr) → Before at (expr_code classes scope at e ++ i.Bound ∷ [])
+  before-index classes scope at e = before-more i.Bound refl (expr_code classes scope at e) at (before-expr classes scope at e)
 
   pub before-exprs : (classes : List Class) (scope : Scope) (at : ℕ) (es : List Expr) → Before at (exprs_code classes scope at es)
   before-exprs classes scope at [] = before-none at
@@ -177,15 +204,30 @@ module _ (code : List Op) where
       let exprs = exprs_code classes scope (at + length receiver) c.args in
       let calls = i.Call (number_called classes (target_class classes scope c) c.method) ∷ [] in
       let last = clears (used_by_all scope c.args) ++ calls in
-      quiet-append receiver (exprs ++ i.Room ∷ last) at (before-more i.Check refl path at
-      (before-path classes scope c.target.base c.target.fields at))
+      quiet-append receiver (exprs ++ i.Room ∷ last) at (before-check classes scope c.target.base c.target.fields at)
       (quiet-append exprs (i.Room ∷ last) (at + length receiver) (before-exprs classes scope (at + length receiver) c.args)
       (λ rest h. calm-orderly code (at + length receiver + length exprs + 1) true (last ++ rest)
       (ap (calm code true) (append_assoc (clears (used_by_all scope c.args)) calls rest)
       ∙ calm-clears true (used_by_all scope c.args) (calls ++ rest) refl)))
 
+  -- one that is refused or changes the machine
+  quiet-takes : (o : Op) → manner o ≡ Takes → (at : ℕ) → Quiet at (o ∷ [])
+  quiet-takes o is at rest h =
+      ap (λ m. orderly_by code at false m rest (calm code (room_behind m false) rest) (orderly code (at + 1) (room_behind m false) rest)) is ∙ h
+
+  -- what makes an object, or an array behind its size
+  quiet-new : (classes : List Class) (scope : Scope) (at : ℕ) (object array : Op) (many : Option Expr) → manner object ≡ Takes
+      → manner array ≡ Takes → Quiet at (new_code classes scope at object array many)
+  quiet-new classes scope at object array None one other = quiet-takes object one at
+  quiet-new classes scope at object array (Some e) one other =
+      let ops = expr_code classes scope at e in
+      quiet-append ops (array ∷ []) at (before-expr classes scope at e) (quiet-takes array other (at + length ops))
+
   pub quiet-right : (classes : List Class) (scope : Scope) (at : ℕ) (r : Right) → Quiet at (right_code classes scope at r)
   quiet-right classes scope at (value e) = quiet-whole classes scope at e
+  quiet-right classes scope at (new x many) = quiet-new classes scope at _ _ many refl refl
+  quiet-right classes scope at (new_tmp x many) = quiet-new classes scope at _ _ many refl refl
+  quiet-right classes scope at (new_iso x many m) = quiet-new classes scope at _ _ many refl refl
   quiet-right classes scope at more = λ rest h. calm-orderly code (at + 1) false rest h
   quiet-right classes scope at (result_of c) = quiet-call classes scope at c
   quiet-right classes scope at _ = λ rest h. h

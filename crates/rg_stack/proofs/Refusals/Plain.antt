@@ -1,14 +1,14 @@
 -- What passes over instructions that neither ask for the input nor may collect.
-use Rattle.std.proofs.Common.{◌≡◌, ℕ, ◌+◌, Bool as Truth, false, List, [], ◌∷◌, ◌++◌, Option, None, length, refl, ap, ◌∙◌, append_assoc}
+use Rattle.std.proofs.Common.{◌≡◌, ℕ, ◌+◌, Bool as Truth, false, List, [], ◌∷◌, ◌++◌, Option, None, Some, length, refl, ap, ◌∙◌, append_assoc}
 use Rattle.rg_base.specs.declared.event.Cause.{Cause}
 use Rattle.rg_base.specs.declared.ty.Ty.{Ty}
 use Rattle.rg_tree.specs.declared.rows.BinOp.{BinOp}
 use Rattle.rg_tree.specs.declared.rows.BinOp.TheVariants as op
-use Rattle.rg_tree.specs.Tree.{Name, Variable, Expr, path, is_nil, neg, not, binary, Class}
+use Rattle.rg_tree.specs.Tree.{Name, Variable, Expr, path, is_nil, neg, not, binary, size, element, Class}
 use Rattle.rg_code.specs.declared.op.Op.{Op}
 use Rattle.rg_code.specs.declared.op.Op.TheVariants as i
 use Rattle.rg_code.specs.Lowering.{Scope, type_in, type_behind, fields_code, path_code, gap, operator_code, expr_code, exprs_code, used_slots, clears}
-use Rattle.rg_code.specs.Lowering.{whole_code}
+use Rattle.rg_code.specs.Lowering.{whole_code, new_code}
 use Rattle.rg_stack.specs.Reads.{reads}
 use Rattle.rg_code.specs.Dues.{due}
 
@@ -33,6 +33,9 @@ plain-fields classes t (f ∷ fs) rest = plain-fields classes (type_behind class
 
 pub plain-path : (classes : List Class) (scope : Scope) (x : Variable) (fs : List Name) → Plain (path_code classes scope x fs)
 plain-path classes scope x fs rest = plain-fields classes (type_in scope x) fs rest
+
+pub plain-check : (classes : List Class) (scope : Scope) (x : Variable) (fs : List Name) → Plain (path_code classes scope x fs ++ i.Check ∷ [])
+plain-check classes scope x fs = plain-append (path_code classes scope x fs) (i.Check ∷ []) (plain-path classes scope x fs) (λ rest. refl)
 
 plain-operator : (o : BinOp) (end : ℕ) (right : List Op) → Plain right → Plain (operator_code o end right)
 plain-operator op.Or end right h = h
@@ -65,6 +68,13 @@ plain-expr classes scope at (binary o a b) rest =
     let right = expr_code classes scope middle b in
     plain-append left (operator_code o (middle + length right) right) (plain-expr classes scope at a)
     (plain-operator o (middle + length right) right (plain-expr classes scope middle b)) rest
+plain-expr classes scope at (size q) rest = plain-append (path_code classes scope q.base q.fields) (i.Size ∷ [])
+    (plain-path classes scope q.base q.fields) (λ rest. refl) rest
+plain-expr classes scope at (element q e) rest =
+    let array = path_code classes scope q.base q.fields ++ i.Check ∷ [] in
+    let index = expr_code classes scope (at + length array) e in
+    plain-append array (index ++ (i.Bound ∷ i.Element ∷ [])) (plain-check classes scope q.base q.fields)
+    (plain-append index (i.Bound ∷ i.Element ∷ []) (plain-expr classes scope (at + length array) e) (λ rest. refl)) rest
 plain-expr classes scope at _ rest = refl
 
 pub plain-exprs : (classes : List Class) (scope : Scope) (at : ℕ) (es : List Expr) → Plain (exprs_code classes scope at es)
@@ -82,5 +92,13 @@ pub plain-whole : (classes : List Class) (scope : Scope) (at : ℕ) (e : Expr) �
 plain-whole classes scope at e = plain-append (expr_code classes scope at e) (clears (used_slots scope e)) (plain-expr classes scope at e)
     (plain-clears (used_slots scope e))
 
-pub plain-check : (classes : List Class) (scope : Scope) (x : Variable) (fs : List Name) → Plain (path_code classes scope x fs ++ i.Check ∷ [])
-plain-check classes scope x fs = plain-append (path_code classes scope x fs) (i.Check ∷ []) (plain-path classes scope x fs) (λ rest. refl)
+-- an index, which is tested
+pub plain-index : (classes : List Class) (scope : Scope) (at : ℕ) (e : Expr) → Plain (expr_code classes scope at e ++ i.Bound ∷ [])
+plain-index classes scope at e = plain-append (expr_code classes scope at e) (i.Bound ∷ []) (plain-expr classes scope at e) (λ rest. refl)
+
+-- what makes an object, or an array behind its size
+pub plain-new : (classes : List Class) (scope : Scope) (at : ℕ) (object array : Op) (many : Option Expr) → Plain (object ∷ []) → Plain (array ∷ [])
+    → Plain (new_code classes scope at object array many)
+plain-new classes scope at object array None one other = one
+plain-new classes scope at object array (Some e) one other =
+    plain-append (expr_code classes scope at e) (array ∷ []) (plain-expr classes scope at e) other

@@ -3,33 +3,36 @@ use Rattle.std.proofs.Common.{◌≡◌, ℕ, ◌+◌, true, false, true≢false
 use Rattle.std.proofs.Common.{None, refl, sym, ap, ◌∙◌, append_assoc, slice_get}
 use Rattle.rg_base.specs.declared.event.Cause.{Cause}
 use Rattle.rg_base.specs.declared.event.Cause.TheVariants.{Asked, Paced}
-use Rattle.rg_tree.specs.Tree.{Name, Variable, Expr, Call, Right, value, new}
+use Rattle.rg_tree.specs.Tree.{Name, Variable, Path, Expr, Call, Right, value, new, new_tmp, new_iso}
 use Rattle.rg_tree.specs.Tree.{read, more, result_of}
-use Rattle.rg_tree.specs.Tree.{StmtKind, declare, assign, call, swap, branch, while, enter, print, collect, return, no_else, otherwise, Block, Class}
+use Rattle.rg_tree.specs.Tree.{StmtKind, declare, assign, assign_element, call, swap, branch, while, enter, print, collect, return, no_else}
+use Rattle.rg_tree.specs.Tree.{otherwise, Block, Class}
 use Rattle.rg_rules.specs.Capabilities.{is_iso}
 use Rattle.rg_rules.specs.Paths.{all_but_last}
 use Rattle.rg_rules.specs.Bodies.{is_return}
 use Rattle.rg_rules.specs.Outside.Inputs.{asks, kind_asks}
 use Rattle.rg_code.specs.declared.op.Op.{Op}
 use Rattle.rg_code.specs.declared.op.Op.TheVariants as i
-use Rattle.rg_code.specs.Lowering.{Scope, type_in, slot_of, path_code, holder_code, held_number}
+use Rattle.rg_code.specs.Lowering.{Scope, type_in, slot_of, path_code, expr_code, holder_code, held_number, assign_element_code, scope_at_end}
+use Rattle.rg_code.specs.Lowering.{leave_op}
 use Rattle.rg_code.specs.Lowering.{exprs_code, used_by_all, clears, whole_code, number_called, target_class, call_code}
 use Rattle.rg_code.specs.Lowering.{call_result, dropped_code, right_code, pace_code, assign_op, assign_code, swap_code, enter_code, scope_inside}
 use Rattle.rg_code.specs.Lowering.{else_code, block_code, kind_code}
 use Rattle.rg_code.specs.Places.{Stands, is_mark}
 use Rattle.rg_stack.proofs.Walks.Place.{block_starts}
 use Rattle.rg_stack.proofs.Refusals.Kind.{behind_first}
-use Rattle.rg_stack.proofs.Refusals.Plain.{tells, nothing, plain-check, plain-clears, plain-exprs, plain-path, plain-whole}
+use Rattle.rg_stack.proofs.Refusals.Plain.{tells, nothing, plain-check, plain-index, plain-new, plain-clears, plain-exprs, plain-path, plain-whole}
 
 -- why a right side may, as it is written: by the form alone, whether its class is there or not
 abbrev pub right_due : Right → Option Cause
-right_due (new x) = Some Paced
+right_due (new x many) = Some Paced
 right_due _ = None
 
 -- why a statement may, as it is written
 abbrev pub written_due : StmtKind → Option Cause
 written_due (declare x t r) = right_due r
 written_due (assign p r) = right_due r
+written_due (assign_element q e r) = right_due r
 written_due collect = Some Asked
 written_due _ = None
 
@@ -54,13 +57,16 @@ call-tells classes scope at c rest =
 right-tells : (classes : List Class) (scope : Scope) (at : ℕ) (r : Right) (rest : List Op) → tells rest ≡ (false, right_due r)
     → tells (right_code classes scope at r ++ rest) ≡ (asks r, right_due r)
 right-tells classes scope at (value e) rest h = plain-whole classes scope at e rest ∙ h
+right-tells classes scope at (new x many) rest h = plain-new classes scope at _ _ many (λ rest. refl) (λ rest. refl) rest ∙ h
+right-tells classes scope at (new_tmp x many) rest h = plain-new classes scope at _ _ many (λ rest. refl) (λ rest. refl) rest ∙ h
+right-tells classes scope at (new_iso x many m) rest h = plain-new classes scope at _ _ many (λ rest. refl) (λ rest. refl) rest ∙ h
 right-tells classes scope at read rest h = ap (λ q. (true, q.1)) h
 right-tells classes scope at more rest h = ap (λ q. (true, q.1)) h
 right-tells classes scope at (result_of c) rest h = call-tells classes scope at c rest
 right-tells classes scope at _ rest h = h
 
 pace-tells : (r : Right) (rest : List Op) → tells rest ≡ nothing → tells (pace_code r ++ rest) ≡ (false, right_due r)
-pace-tells (new x) rest h = ap (λ q. (q.0, Some Paced)) h
+pace-tells (new x many) rest h = ap (λ q. (q.0, Some Paced)) h
 pace-tells _ rest h = h
 
 assign-op-tells : (scope : Scope) (x : Variable) (rest : List Op) → tells (assign_op scope x ∷ rest) ≡ tells rest
@@ -84,6 +90,18 @@ assign-tells classes scope at x (f ∷ fs) r rest h =
     ap tells (append_assoc holder (ops ++ last) rest) ∙ plain-check classes scope x (all_but_last f fs) ((ops ++ last) ++ rest)
     ∙ ap tells (append_assoc ops last rest)
     ∙ right-tells classes scope (at + length holder) r (last ++ rest) (pace-tells r rest h)
+
+element-tells : (classes : List Class) (scope : Scope) (at : ℕ) (q : Path) (e : Expr) (r : Right) (rest : List Op) → tells rest ≡ nothing
+    → tells (assign_element_code classes scope at q e r ++ rest) ≡ (asks r, right_due r)
+element-tells classes scope at q e r rest h =
+    let array = path_code classes scope q.base q.fields ++ i.Check ∷ [] in
+    let index = expr_code classes scope (at + length array) e ++ i.Bound ∷ [] in
+    let ops = right_code classes scope (at + length array + length index) r in
+    let last = i.PutElement ∷ pace_code r in
+    ap tells (append_assoc array (index ++ (ops ++ last)) rest) ∙ plain-check classes scope q.base q.fields ((index ++ (ops ++ last)) ++ rest)
+    ∙ ap tells (append_assoc index (ops ++ last) rest) ∙ plain-index classes scope (at + length array) e ((ops ++ last) ++ rest)
+    ∙ ap tells (append_assoc ops last rest)
+    ∙ right-tells classes scope (at + length array + length index) r (last ++ rest) (pace-tells r rest h)
 
 -- statements
 
@@ -135,6 +153,9 @@ kind-tells classes code scope at line (declare x t r) h ends =
 kind-tells classes code scope at line (assign p r) h ends =
     quiet-tells code at line (assign_code classes scope (at + 1) p.base p.fields r) (asks r, right_due r) h
     (assign-tells classes scope (at + 1) p.base p.fields r) (ends refl)
+kind-tells classes code scope at line (assign_element q e r) h ends =
+    quiet-tells code at line (assign_element_code classes scope (at + 1) q e r) (asks r, right_due r) h (element-tells classes scope (at + 1) q e r)
+    (ends refl)
 kind-tells classes code scope at line (call c) h ends =
     let ops = call_code classes scope (at + 1) c in
     let dropped = dropped_code (call_result classes scope c) in
@@ -155,15 +176,16 @@ kind-tells classes code scope at line (while e b) h ends =
     let inside = at + 1 + length (whole_code classes scope (at + 1) e) + 1 in
     quiet-tells code at line _ nothing h (λ rest c. test-tells classes scope (at + 1) (inside + length (block_code classes scope inside b) + 3) inside
     line e b (i.End (length scope) ∷ i.Jump at ∷ []) rest) (ends refl)
-kind-tells classes code scope at line (enter p z b) h ends =
+kind-tells classes code scope at line (enter p z b giving) h ends =
     let front = enter_code classes scope p.base p.fields in
     let within = scope_inside classes scope p z in
     let block = block_code classes within (at + 1 + length front) b in
-    let closing = i.Mark line ∷ i.Leave (length scope) ∷ [] in
+    let leaves = leave_op (scope_at_end classes within b) (length scope) giving in
+    let closing = i.Mark line ∷ leaves ∷ [] in
     quiet-tells code at line (front ++ (block ++ closing)) nothing h
     (λ rest c. ap tells (append_assoc front (block ++ closing) rest) ∙ enter-tells classes scope p.base p.fields ((block ++ closing) ++ rest)
     (tells-mark ((block ++ closing) ++ rest) (ap (λ l. is_mark (slice_get l 0)) (append_assoc block closing rest)
-    ∙ block_starts classes within (at + 1 + length front) line b (i.Leave (length scope) ∷ rest)))) (ends refl)
+    ∙ block_starts classes within (at + 1 + length front) line b (leaves ∷ rest)))) (ends refl)
 kind-tells classes code scope at line (print e) h ends =
     let whole = whole_code classes scope (at + 1) e in
     quiet-tells code at line (whole ++ i.Print ∷ []) nothing h

@@ -1,8 +1,8 @@
--- The statements `let x: T = r;`, `x = r;` and `q.f = r;` with a right side that makes no call.
+-- The statements `let x: T = r;`, `x = r;`, `q.f = r;` and `q[e] = r;` with a right side that makes no call.
 use Rattle.std.proofs.Common.{◌≡◌, ℕ, ◌+◌, ◌<◌, true, false, Bool as Truth, if◌then◌else◌, List, [], ◌∷◌, ◌++◌, length, drop, Option, Some, None}
 use Rattle.std.proofs.Common.{Result, Ok, Err, refl, sym, ap, subst, ◌∙◌, arith, append_assoc, length-append, slice_get, slice_set}
 use Rattle.std.proofs.Common.{unwrap_or}
-use Rattle.std.specs.Prelude.{not, nat_lt, nat_le}
+use Rattle.std.specs.Prelude.{not, nat_lt, nat_le, ok_or}
 use Rattle.std.proofs.lemmas.Bool.{lt-ltb, and_from, not_from_false}
 use Rattle.std.proofs.lemmas.List.{length-map, map-append, length-set}
 use Rattle.rg_base.specs.declared.value.Val.{Val}
@@ -10,34 +10,38 @@ use Rattle.rg_base.specs.declared.value.Val.TheVariants as val
 use Rattle.rg_base.specs.declared.object.Seen.{Seen}
 use Rattle.rg_base.specs.declared.words.Manager.{Manager}
 use Rattle.rg_base.specs.declared.outcome.Trap.{Trap}
-use Rattle.rg_tree.specs.Tree.{Name, Ty as Written, Variable, Path, Right, stmt, StmtKind, declare, assign, Class}
+use Rattle.rg_base.specs.declared.outcome.Trap.TheVariants as trap
+use Rattle.rg_tree.specs.Tree.{Name, Ty as Written, Variable, Path, Expr, Right, stmt, StmtKind, declare, assign, assign_element, Class}
 use Rattle.rg_rules.specs.Answers.{◌>>=◌, ◌>>◌}
 use Rattle.rg_rules.specs.Capabilities.{is_iso}
 use Rattle.rg_rules.specs.Types.{type_of, fields_of, field_place}
 use Rattle.rg_rules.specs.Paths.{all_but_last, last_field}
 use Rattle.rg_rules.specs.Items.{Item, Do}
 use Rattle.rg_rules.specs.State.{Local, Target, Declares, Assigns, Drops, place_in, set_in, State, add_local, put_local}
-use Rattle.rg_rules.specs.Evaluation.{object_at, with_field, path_value}
+use Rattle.rg_rules.specs.Values.{as_int}
+use Rattle.rg_rules.specs.Evaluation.{object_at, place_among, element_place, with_element, with_field, path_value, value_of}
 use Rattle.rg_rules.specs.RightSides.{with_right}
-use Rattle.rg_rules.specs.Steps.{put_field, next}
+use Rattle.rg_rules.specs.Steps.{put_field, put_element as plain_put, next}
 use Rattle.rg_rules.proofs.Step.{object_at-ok}
 use Rattle.rg_code.specs.declared.op.Op.{Op}
 use Rattle.rg_code.specs.declared.op.Op.TheVariants as i
 use Rattle.rg_code.specs.Code.{Code}
-use Rattle.rg_code.specs.Lowering.{Scope, with_slot, slot_of, type_in, holder_code, held_number, right_code, pace_code, assign_op}
+use Rattle.rg_code.specs.Lowering.{Scope, with_slot, slot_of, type_in, path_code, expr_code, holder_code, held_number, right_code, pace_code}
+use Rattle.rg_code.specs.Lowering.{assign_op}
 use Rattle.rg_code.specs.Places.{scope_of, Level, Lies}
 use Rattle.rg_stack.specs.Machine.{Machine, put_slot, slots_below}
-use Rattle.rg_stack.specs.Effects.{Work, Walked, Traps, Stuck, put_in, with_value_in}
+use Rattle.rg_stack.specs.Effects.{Work, Walked, Traps, Stuck, put_in, with_value_in, place_named, put_element}
 use Rattle.rg_stack.specs.Needs.{needs, is_closed, top_base, may_keep}
 use Rattle.rg_stack.specs.Given.{given_step as step, given_walk as walk}
 use Rattle.rg_stack.proofs.Mirrors.{Mirrors}
 use Rattle.rg_stack.specs.Shows.{levels_of}
 use Rattle.rg_stack.proofs.Mirrors.{SameMove}
-use Rattle.rg_stack.proofs.Walks.Walk.{FollowsPath, walk-path}
+use Rattle.rg_stack.proofs.Walks.Walk.{FollowsPath, Agrees, walk-path, walk-expr, walk-bound}
+use Rattle.rg_stack.proofs.Walks.Index.{named-place}
 use Rattle.rg_stack.proofs.Walks.Place.{roomy-back}
 use Rattle.rg_stack.proofs.Callers.Frame.{room_of, shows_next}
 use Rattle.rg_stack.proofs.Walks.Slot.{ShowsSlots, Has, shows_put, slot_place, scope-length, scope_set}
-use Rattle.rg_stack.proofs.Walks.End.{EndsAs, value_ends, Round, work, state, level, RoundShows, Middle, Keeps, keeps_same, slots_hold}
+use Rattle.rg_stack.proofs.Walks.End.{EndsAs, value_ends, object_ends, Round, work, state, level, RoundShows, Middle, Keeps, keeps_same, slots_hold}
 use Rattle.rg_stack.proofs.Walks.End.{finish_at, statement_step}
 use Rattle.rg_stack.proofs.Callers.Need.{given, nil-open, free_slot}
 use Rattle.rg_stack.proofs.Needs.Keep.{keep-here}
@@ -120,6 +124,43 @@ abbrev pub HolderOwes : List Class → List Seen → List Local → Scope → Va
 HolderOwes classes store locals scope x f fs = (u : Val) (o : Seen)
     → path_value classes store locals (record { base = x; fields = all_but_last f fs }) ≡ Ok u → object_at store u ≡ Ok o
     → field_place (fields_of classes o.class) (last_field f fs) ≡ Some (held_number classes scope x f fs)
+
+-- the same of an element: the array has as many still
+element_in_object : (r : Round) (locals : List Local) (managers : List Manager) (input : List ℕ) (items : List Item)
+    (store : List Seen) (a : ℕ) (o q : Seen) (x : Val) (k : ℕ) (v : Val)
+    → slice_get store a ≡ Some q → length q.fields ≡ length o.fields → element_place o x ≡ Ok k
+    → plain_put (val.Obj a) k (state r store locals managers input items) v ≡ state r (put_element store (val.Obj a) x v) locals managers input items
+element_in_object r locals managers input items store a o q x k v there long place =
+    let named : place_named q x ≡ k = ap (λ n. unwrap_or (place_among n (as_int x)) n) long ∙ named-place o x k place in
+    ap (λ (o : Option Seen). elim o [
+      | None ↦ state r store locals managers input items
+      | Some o
+          ↦ state r (slice_set store a (with_element k v o)) locals managers input items
+    ]) there
+    ∙ sym (ap (λ (o : Option Seen). state r (elim (ok_or o trap.Nil) [
+      | Ok o ↦ put_in store (val.Obj a) (place_named o x) v
+      | Err t ↦ store
+    ]) locals managers input items) there
+    ∙ ap (λ n. state r (put_in store (val.Obj a) n v) locals managers input items) named
+    ∙ ap (λ (o : Option Seen). state r (elim o [ None ↦ store | Some o ↦ slice_set store a (with_value_in o k v) ]) locals managers input items)
+    there)
+
+pub put_element_is : (r : Round) (locals : List Local) (managers : List Manager) (input : List ℕ) (items : List Item)
+    (old store : List Seen) (u x : Val) (o : Seen) (k : ℕ) (v : Val)
+    → object_at old u ≡ Ok o → Keeps old store → element_place o x ≡ Ok k
+    → plain_put u k (state r store locals managers input items) v ≡ state r (put_element store u x v) locals managers input items
+put_element_is r locals managers input items old store val.Nil x o k v is keeps place = refl
+put_element_is r locals managers input items old store (val.Int z) x o k v is keeps place = refl
+put_element_is r locals managers input items old store (val.Bool b) x o k v is keeps place = refl
+put_element_is r locals managers input items old store (val.Obj a) x o k v is keeps place =
+    let leads = object_at-ok old (val.Obj a) o is in
+    let same : leads.address ≡ a = ap (λ u. elim u [ val.Nil ↦ a | val.Int z ↦ a | val.Bool b ↦ a | val.Obj n ↦ n ]) (sym leads.value) in
+    let q = keeps a o (ap (slice_get old) (sym same) ∙ leads.there) in
+    element_in_object r locals managers input items store a o q.0 x k v q.1 q.3 place
+
+flat_element : (p e o q t : List Op) (a b c : Op)
+    → ((p ++ a ∷ []) ++ ((e ++ b ∷ []) ++ (o ++ c ∷ q))) ++ t ≡ p ++ (a ∷ (e ++ (b ∷ (o ++ (c ∷ (q ++ t))))))
+flat_element p e o q t a b c = simp append_assoc
 
 flat_put : (p e q t : List Op) (a b : Op) → ((p ++ a ∷ []) ++ (e ++ b ∷ q)) ++ t ≡ p ++ (a ∷ (e ++ (b ∷ (q ++ t))))
 flat_put p e q t a b = simp append_assoc
@@ -297,3 +338,79 @@ module _ (classes : List Class) (code : Code) (r : Round) (store : List Seen) (s
       (slots_hold scope slots locals h.slots.0 refl) follows))
       (value_ends classes code r.output (path_value classes store locals q) _ _
       (λ u led. tested_ends classes code r.output (object_at store u) _ _ (λ o is. inner u o led is))))
+
+  -- `q[e] = r;`
+  pub element-mirrors : (q : Path) (e : Expr) (right : Right) → Showing (assign_element q e right) → Opens classes code
+      → RightOwes classes store r.windows locals (scope_of locals) right → FollowsPath classes store r.windows locals (scope_of locals) q
+      → Agrees classes store r.windows locals (scope_of locals) e
+      → ((u x : Val) (o : Seen) (k : ℕ) → path_value classes store locals q ≡ Ok u → object_at store u ≡ Ok o
+      → value_of classes store locals e ≡ Ok x → element_place o x ≡ Ok k
+      → RightNeeds classes code r (scope_of locals) store slots locals managers input (x ∷ u ∷ []) right
+      × Takes Drops right (λ v m. needs code i.PutElement (v ∷ x ∷ u ∷ []) m ≡ true))
+      → Simulated (assign_element q e right)
+  element-mirrors q e right h opens owes follows agrees need =
+      let size = length slots in
+      let path = path_code classes scope q.base q.fields in
+      let array = path ++ i.Check ∷ [] in
+      let inside = r.at + 1 + length array in
+      let expr = expr_code classes scope inside e in
+      let index = expr ++ i.Bound ∷ [] in
+      let here = inside + length index in
+      let ops = right_code classes scope here right in
+      let pace = pace_code right in
+      let behind = ops ++ (i.PutElement ∷ pace) in
+      let more = array ++ (index ++ behind) in
+      let end = r.at + length (i.Mark line ∷ more) in
+      let tail = drop end code.ops in
+      let last = ops ++ (i.PutElement ∷ (pace ++ tail)) in
+      let item = Do (stmt line (assign_element q e right)) in
+      let s = state r store locals managers input (j ∷ rest) in
+      let w = work r store slots managers input in
+      let round = round_of classes code r store slots locals managers input (item ∷ j ∷ rest) h in
+      let middle = middle_of classes code r store slots locals managers input (item ∷ j ∷ rest) h in
+      let there : here + length ops + 1 + length pace ≡ end =
+      omega (arith, length-append array (index ++ behind), length-append index behind, length-append ops (i.PutElement ∷ pace)) in
+      let begins : r.at + 1 + length path + 1 ≡ inside = omega (arith, length-append path (i.Check ∷ [])) in
+      let tested : inside + length expr + 1 ≡ here = omega (arith, length-append expr (i.Bound ∷ [])) in
+      let put = λ (u : Val) (k : ℕ). with_right classes s Drops (plain_put u k) right in
+      let indexed = λ (u : Val) (o : Seen) (x : Val). ◌>>=◌ (element_place o x) (put u) in
+      let held = λ (u : Val) (o : Seen). ◌>>=◌ (value_of classes store locals e) (indexed u o) in
+      let led_to = λ (u : Val). ◌>>=◌ (object_at store u) (held u) in
+      let inner : (u x : Val) (o : Seen) (k : ℕ) → path_value classes store locals q ≡ Ok u → object_at store u ≡ Ok o
+      → value_of classes store locals e ≡ Ok x → element_place o x ≡ Ok k
+      → EndsAs classes code r.output (put u k) (walk code last (inside + length expr + 1) 0 (x ∷ u ∷ []) w) =
+      λ u x o k led is got place.
+      subst (λ n. EndsAs classes code r.output (put u k) (walk code last n 0 (x ∷ u ∷ []) w)) (sym tested)
+      (right_ends classes code r scope size store (j ∷ rest) Drops (plain_put u k) right (i.PutElement ∷ (pace ++ tail)) here (x ∷ u ∷ []) store
+      slots locals managers input round opens middle owes (need u x o k led is got place).0
+      (λ now slots after managers input v m gave.
+      if_ends classes code r.output (Ok (plain_put u k (state r now after managers input (j ∷ rest)) v))
+      (needs code i.PutElement (v ∷ x ∷ u ∷ []) (work r now slots managers input).machine)
+      (walk code (pace ++ tail) (here + length ops + 1) 0 [] (work r (put_element now u x v) slots managers input)) Stuck
+      ((need u x o k led is got place).1 now slots after managers input v m gave)
+      (subst (λ s. EndsAs classes code r.output (Ok s) (walk code (pace ++ tail) (here + length ops + 1) 0 []
+      (work r (put_element now u x v) slots managers input)))
+      (sym (put_element_is r after managers input (j ∷ rest) store now u x o k v is m.keeps place))
+      (subst (λ y. EndsAs classes code r.output (Ok (state r (put_element now u x v) after managers input (j ∷ rest))) y)
+      (sym (walk-pace classes code right tail (here + length ops + 1) (work r (put_element now u x v) slots managers input)))
+      (finish_at classes code r (put_element now u x v) slots after managers input j rest size end (here + length ops + 1 + length pace) there
+      m.shows m.size_is round
+      (subst (λ s. Lies classes code.ops (level r s size ∷ levels) (j ∷ rest) end) (sym m.scope_is) h.places.1)))))) in
+      statement_step classes code r store slots locals managers input line (assign_element q e right) more (j ∷ rest) h.places.0.0
+      (subst (λ y. EndsAs classes code r.output (◌>>=◌ (path_value classes store locals q) led_to) y)
+      (sym (ap (λ l. walk code l (r.at + 1) 0 [] w) (flat_element path expr ops pace tail i.Check i.Bound i.PutElement)
+      ∙ walk-path classes code q locals scope (r.at + 1) (i.Check ∷ (expr ++ (i.Bound ∷ last))) [] w
+      (slots_hold scope slots locals h.slots.0 refl) follows))
+      (value_ends classes code r.output (path_value classes store locals q) led_to
+      (λ u. walk code (i.Check ∷ (expr ++ (i.Bound ∷ last))) (r.at + 1 + length path) 0 (u ∷ []) w) (λ u led.
+      object_ends classes code r.output (object_at store u) (held u)
+      (λ o. walk code (expr ++ (i.Bound ∷ last)) (r.at + 1 + length path + 1) 0 (u ∷ []) w) (λ o is.
+      subst (λ n. EndsAs classes code r.output (held u o) (walk code (expr ++ (i.Bound ∷ last)) n 0 (u ∷ []) w)) (sym begins)
+      (subst (λ y. EndsAs classes code r.output (held u o) y)
+      (sym (walk-expr classes code e locals scope inside (i.Bound ∷ last) (u ∷ []) w (slots_hold scope slots locals h.slots.0 refl) agrees))
+      (value_ends classes code r.output (value_of classes store locals e) (indexed u o)
+      (λ x. walk code (i.Bound ∷ last) (inside + length expr) 0 (x ∷ u ∷ []) w) (λ x got.
+      subst (λ y. EndsAs classes code r.output (indexed u o x) y)
+      (sym (walk-bound classes code u x o (inside + length expr) last [] w is))
+      (object_ends classes code r.output (element_place o x) (put u)
+      (λ k. walk code last (inside + length expr + 1) 0 (x ∷ u ∷ []) w) (λ k place. inner u x o k led is got place)))))))))

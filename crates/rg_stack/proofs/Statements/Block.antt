@@ -18,7 +18,7 @@ use Rattle.rg_rules.specs.Steps.{Went, next, begin_block}
 use Rattle.rg_code.specs.declared.op.Op.{Op}
 use Rattle.rg_code.specs.declared.op.Op.TheVariants as i
 use Rattle.rg_code.specs.Code.{Code}
-use Rattle.rg_code.specs.Lowering.{Scope, used_slots, whole_code, block_code}
+use Rattle.rg_code.specs.Lowering.{scope_at_end, Scope, used_slots, whole_code, block_code}
 use Rattle.rg_code.specs.Places.{StandsIn, is_mark, behind_end, scope_of, Level, Lies}
 use Rattle.rg_stack.specs.Given.{given_step as step, given_step_from as step_from, given_walk as walk}
 use Rattle.rg_stack.proofs.Basics.{is_halt}
@@ -31,7 +31,7 @@ use Rattle.rg_stack.proofs.Mirrors.{SameMove, mirrors-work}
 use Rattle.rg_stack.proofs.Walks.Walk.{Agrees, IsTruth, walk-skip}
 use Rattle.rg_stack.proofs.Callers.Mark.{drop-stands, first-drop, mark-there, lies_at_mark, walk_at_mark, walk_to_items}
 use Rattle.rg_stack.proofs.Walks.Place.{front_in, back_in, get-stands, stands-front, stands-back, block_starts, AllGoOn, lies_block}
-use Rattle.rg_stack.proofs.Walks.Place.{take-block_scope, block_scope}
+use Rattle.rg_stack.proofs.Walks.Place.{take-at_end}
 use Rattle.rg_stack.proofs.Walks.Slot.{ShowsSlots, values_in, shows_at, cleared_slots}
 use Rattle.rg_stack.proofs.Walks.End.{EndsAs, ended, computed_ends, Round, work, state, level, finish, finish_at, statement_step, walk-whole}
 use Rattle.rg_stack.proofs.Walks.End.{middle_whole, UsesUp}
@@ -55,12 +55,12 @@ behind_mark (Some o) at e = absurd (true≢false (sym e))
 pub block_end : (classes : List Class) (code : List Op) (l : Level) (ls : List Level) (b : Block) (here line : ℕ) (more : List Op) (after : List Item)
     → StandsIn code l here (i.Mark line ∷ i.End (length l.scope) ∷ more)
     → Lies classes code (l ∷ ls) after (behind_end (slice_get code (here + 2)) (here + 2))
-    → Lies classes code (record l { scope = block_scope classes l.scope b } ∷ ls) (EndAt (length l.scope) ∷ after) here
+    → Lies classes code (record l { scope = scope_at_end classes l.scope b } ∷ ls) (EndAt (length l.scope) ∷ after) here
 block_end classes code l ls b here line more after h lies = (
   ap is_mark (get-stands code here (i.Mark line) _ h.0),
   stands-front code (here + 1) (i.End (length l.scope) ∷ []) more (stands-back code here (i.Mark line ∷ []) (i.End (length l.scope) ∷ more) h.0),
   subst (λ s. Lies classes code (record l { scope = s } ∷ ls) after (behind_end (slice_get code (here + 2)) (here + 2)))
-      (sym (take-block_scope classes b l.scope)) lies,
+      (sym (take-at_end classes b l.scope)) lies,
 )
 
 -- slots behind the end of a block

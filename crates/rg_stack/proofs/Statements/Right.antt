@@ -1,9 +1,12 @@
 -- Right sides: the code of each leaves the value that the step uses, in the middle of a step.
-use Rattle.std.proofs.Common.{◌≡◌, ℕ, zero, suc, ◌+◌, true, false, true≢false, Bool as Truth, if◌then◌else◌, List, [], ◌∷◌, ◌++◌, length, map}
-use Rattle.std.proofs.Common.{Option, Some, None, option_map, Result, Ok, Err, refl, sym, ap, subst, ◌∙◌, arith, slice_get, slice_set, unwrap_or}
+use Rattle.std.proofs.Common.{◌≡◌, ℕ, zero, suc, ◌+◌, true, false, true≢false, Bool as Truth, ◌&&◌, if◌then◌else◌, List, [], ◌∷◌, ◌++◌, length, map}
+use Rattle.std.proofs.Common.{replicate, append_assoc, length-append, Option, Some, None, option_map, Result, Ok, Err, refl, sym, ap, subst, ◌∙◌, arith}
+use Rattle.std.proofs.Common.{slice_get, slice_set, unwrap_or}
 use Rattle.std.proofs.lemmas.List.{length-set}
 use Rattle.std.proofs.lemmas.Option.{none-some}
-use Rattle.std.specs.Prelude.{filter_map}
+use Rattle.std.specs.Prelude.{filter_map, not}
+use Rattle.std.proofs.lemmas.Bool.{and_from, not_from_false}
+use Rattle.rg_base.specs.declared.outcome.Trap.{Trap}
 use Rattle.rg_base.specs.declared.value.Val.{Val}
 use Rattle.rg_base.specs.declared.value.Val.TheVariants as val
 use Rattle.rg_base.specs.declared.value.Word.{Word}
@@ -12,8 +15,8 @@ use Rattle.rg_base.specs.declared.object.Label.{Label}
 use Rattle.rg_base.specs.declared.object.Label.TheVariants.{Region, Temp, Frozen}
 use Rattle.rg_base.specs.declared.words.Manager.{Manager}
 use Rattle.rg_base.specs.Input.{NextNumber, found, malformed, at_end, next_number}
+use Rattle.rg_tree.specs.Tree.{Name, Variable, Expr, Ty as Written, int, bool, ref, Field, Right, value, new, new_tmp, new_iso, freeze, merge, read, more}
 use Rattle.rg_base.specs.declared.outcome.Trap.{Trap}
-use Rattle.rg_tree.specs.Tree.{Name, Variable, Ty as Written, int, bool, ref, Field, Right, value, new, new_tmp, new_iso, freeze, merge, read, more}
 use Rattle.rg_tree.specs.Tree.{result_of, Member, field, method, Class}
 use Rattle.rg_rules.specs.Answers.{◌>>=◌}
 use Rattle.rg_rules.specs.Types.{field_member, members_of, fields_of, class_named, class_number}
@@ -21,20 +24,22 @@ use Rattle.rg_rules.specs.Items.{Item}
 use Rattle.rg_rules.specs.State.{Local, Target, value_in, set_in, State, Window as Opened, active, top_number}
 use Rattle.rg_rules.specs.Evaluation.{object_at, value_of, uses, cleared}
 use Rattle.rg_rules.specs.Regions.{region_of, in_regions, beneath, relabelled, relabelled_object}
-use Rattle.rg_rules.specs.RightSides.{Use, opening_value, new_object, frozen, merged, consumed, taken, is_left, with_right}
-use Rattle.rg_sound.proofs.Stores.Make.{class-at}
+use Rattle.rg_rules.specs.RightSides.{Use, opening_value, new_object, made as made_plain, array_size, opening_element as plain_element, new_array}
+use Rattle.rg_rules.specs.RightSides.{made_array, made_new, with_region, frozen, merged, consumed, taken, is_left, with_right}
+use Rattle.rg_rules.proofs.Header.{class_number-at}
 use Rattle.rg_code.specs.declared.op.Op.{Op}
 use Rattle.rg_code.specs.declared.op.Op.TheVariants as i
 use Rattle.rg_code.specs.Code.{Code}
-use Rattle.rg_code.specs.Lowering.{Scope, slot_of, used_slots, right_code, pace_code, opening_word, opening_words}
+use Rattle.rg_code.specs.Lowering.{Scope, slot_of, used_slots, expr_code, new_code, right_code, pace_code, opening_word, opening_words, opening_of}
 use Rattle.rg_stack.specs.Machine.{Window, value_of_word}
-use Rattle.rg_stack.specs.Effects.{beneath_by_labels, Work, Traps, Stuck, top_region, top_window, relabel, next_taken}
-use Rattle.rg_stack.specs.Needs.{needs, owned_once, leads_nowhere, opens_plain}
+use Rattle.rg_stack.specs.Effects.{beneath_by_labels, Work, Traps, Stuck, with_value, opening_element, top_region, top_window, relabel}
+use Rattle.rg_stack.specs.Effects.{next_taken}
+use Rattle.rg_stack.specs.Needs.{needs, is_closed, owned_once, leads_nowhere, opens_plain}
 use Rattle.rg_stack.specs.Shows.{ShowsWindows}
 use Rattle.rg_stack.specs.Given.{given_walk as walk}
-use Rattle.rg_stack.proofs.Walks.Walk.{Agrees}
+use Rattle.rg_stack.proofs.Walks.Walk.{NotShut, Agrees, walk-expr}
 use Rattle.rg_stack.proofs.Walks.Slot.{ShowsSlots, cleared_slots, shows_clear, scope_set, slot_place}
-use Rattle.rg_stack.proofs.Walks.End.{EndsAs, object_ends, computed_ends, Round, work, state, RoundShows, Middle, Keeps, slots_hold}
+use Rattle.rg_stack.proofs.Walks.End.{EndsAs, value_ends, object_ends, computed_ends, Round, work, state, RoundShows, Middle, Keeps, slots_hold}
 use Rattle.rg_stack.proofs.Walks.End.{walk-whole, middle_whole, UsesUp}
 use Rattle.rg_stack.proofs.Callers.Base.{if_ends}
 
@@ -52,40 +57,62 @@ words_values (field f ∷ ms) = ap (λ v. v ∷ map value_of_word (opening_words
 words_values (method m ∷ ms) = words_values ms
 
 words_at : (classes : List Class) (n : ℕ) (k : Class) → slice_get classes n ≡ Some k
-    → slice_get (map (λ (c : Class). opening_words c.members) classes) n ≡ Some (opening_words k.members)
+    → slice_get (map (λ (c : Class). opening_of c.element c.members) classes) n ≡ Some (opening_of k.element k.members)
 words_at [] n k h = absurd (true≢false (sym (ap (λ (o : Option Class). elim o [ Some x ↦ true | None ↦ false ]) h)))
-words_at (c ∷ cs) zero k h = ap (option_map (λ (c : Class). opening_words c.members)) h
+words_at (c ∷ cs) zero k h = ap (option_map (λ (c : Class). opening_of c.element c.members)) h
 words_at (c ∷ cs) (suc n) k h = words_at cs n k h
 
 -- the openings of a code are those of the classes
 abbrev pub Opens : List Class → Code → Type 0
-Opens classes code = code.openings ≡ map (λ (c : Class). opening_words c.members) classes
+Opens classes code = code.openings ≡ map (λ (c : Class). opening_of c.element c.members) classes
 
-opens_as : (classes : List Class) (code : Code) (n : ℕ) (k : Class) → Opens classes code → slice_get classes n ≡ Some k
+opens_as : (classes : List Class) (code : Code) (n : ℕ) (k : Class) → Opens classes code → slice_get classes n ≡ Some k → k.element ≡ None
     → map value_of_word (unwrap_or (slice_get code.openings n) []) ≡ map (λ (f : Field). opening_value f.ty) (fields_of classes n)
-opens_as classes code n k opens there =
+opens_as classes code n k opens there plain =
     ap (λ l. map value_of_word (unwrap_or (slice_get l n) [])) opens
     ∙ ap (λ o. map value_of_word (unwrap_or o [])) (words_at classes n k there)
+    ∙ ap (λ e. map value_of_word (opening_of e k.members)) plain
     ∙ words_values k.members
     ∙ ap (λ o. map (λ (f : Field). opening_value f.ty) (filter_map field_member (members_of o))) (sym there)
 
 seen_is : (classes : List Class) (code : Code) (x : Name) (k : Class) (label here : Label) → Opens classes code → class_named classes x ≡ Some k
-    → here ≡ label
+    → k.element ≡ None → here ≡ label
     → ◌≡◌ {A = Seen} (record {
       class = class_number classes x;
       fields = map value_of_word
           (unwrap_or (slice_get code.openings (class_number classes x)) []);
       label = here;
     }) (new_object classes x label)
-seen_is classes code x k label here opens named same =
+seen_is classes code x k label here opens named plain same =
     ap (λ fs. record { class = class_number classes x; fields = fs; label = here })
-    (opens_as classes code (class_number classes x) k opens (class-at classes x k named))
+    (opens_as classes code (class_number classes x) k opens (class_number-at classes x k named) plain)
     ∙ ap (λ l. record {
       class = class_number classes x;
       fields = map (λ (f : Field). opening_value f.ty)
           (fields_of classes (class_number classes x));
       label = l;
     }) same
+
+-- what an element starts with
+element_opens : (classes : List Class) (code : Code) (n : ℕ) (k : Class) (t : Written) → Opens classes code → slice_get classes n ≡ Some k
+    → k.element ≡ Some t → opening_element (unwrap_or (slice_get code.openings n) []) ≡ plain_element k.element
+element_opens classes code n k t opens there is =
+    ap (λ l. opening_element (unwrap_or (slice_get l n) [])) opens
+    ∙ ap (λ o. opening_element (unwrap_or o [])) (words_at classes n k there)
+    ∙ ap (λ e. opening_element (opening_of e k.members)) is
+    ∙ word_value t ∙ ap plain_element (sym is)
+
+array_is : (classes : List Class) (code : Code) (x : Name) (k : Class) (t : Written) (m : ℕ) (label here : Label) → Opens classes code
+    → class_named classes x ≡ Some k → k.element ≡ Some t → here ≡ label
+    → ◌≡◌ {A = Seen} (record {
+      class = class_number classes x;
+      fields = replicate m (opening_element (unwrap_or (slice_get code.openings (class_number classes x)) []));
+      label = here;
+    }) (new_array classes x k m label)
+array_is classes code x k t m label here opens named is same =
+    ap (λ v. record { class = class_number classes x; fields = replicate m v; label = here })
+    (element_opens classes code (class_number classes x) k t opens (class_number-at classes x k named) is)
+    ∙ ap (λ l. record { class = class_number classes x; fields = replicate m (plain_element k.element); label = l }) same
 
 -- the topmost window
 pub same_region : (sizes : List ℕ) (ws : List Window) (ps : List Opened) → ShowsWindows sizes ws ps → top_region ws ≡ active ps
@@ -100,7 +127,7 @@ same_window sizes [] (p ∷ ps) h = absurd h
 same_window sizes (w ∷ ws) [] h = absurd h
 same_window sizes (w ∷ ws) (p ∷ ps) h = h.0.number
 
--- objects keep their classes
+-- objects keep their classes, and have as many fields
 
 get_append : (xs ys : List Seen) (a : ℕ) (o : Seen) → slice_get xs a ≡ Some o → slice_get (xs ++ ys) a ≡ Some o
 get_append [] ys a o h = absurd (none-some o h)
@@ -116,8 +143,12 @@ class_kept : (t : Truth) (label : Label) (o : Seen) → ◌≡◌ {A = ℕ} ((if
 class_kept true label o = refl
 class_kept false label o = refl
 
+fields_kept : (t : Truth) (label : Label) (o : Seen) → length ((if t then record o { label = label } else o).fields) ≡ length o.fields
+fields_kept true label o = refl
+fields_kept false label o = refl
+
 keeps_append : (old store : List Seen) (q : Seen) → Keeps old store → Keeps old (store ++ q ∷ [])
-keeps_append old store q h a o e = let g = h a o e in (g.0, get_append store (q ∷ []) a g.0 g.1, g.2)
+keeps_append old store q h a o e = let g = h a o e in (g.0, get_append store (q ∷ []) a g.0 g.1, g.2, g.3)
 
 keeps_relabelled : (old store : List Seen) (regions : List ℕ) (label : Label) → Keeps old store → Keeps old (relabelled regions label store)
 keeps_relabelled old store regions label h a o e =
@@ -126,6 +157,7 @@ keeps_relabelled old store regions label h a o e =
       get_map (relabelled_object regions label) store a g.0 g.1,
       class_kept
           (in_regions regions g.0.label) label g.0 ∙ g.2,
+      fields_kept (in_regions regions g.0.label) label g.0 ∙ g.3,
     )
 
 pub middle_store : (scope : Scope) (n : ℕ) (old store after : List Seen) (slots : List Val) (locals : List Local) → Keeps old after
@@ -151,12 +183,19 @@ abbrev pub LabelsLead : List Class → List Seen → Type 0
 LabelsLead classes store = (k r : ℕ) (label : Label) → relabelled (beneath_by_labels store k (r ∷ [])) label store
     ≡ relabelled (beneath classes store k (r ∷ [])) label store
 
+-- what the rules give of `new C` and of `new C [e]`: the class is there, and it is an array class where a size stands
+abbrev pub NewOwes : List Class → List Seen → List Window → List Local → Scope → Name → (many : Option Expr) → Type 0
+NewOwes classes store windows locals scope x None = (k : Class) × (class_named classes x ≡ Some k) × (k.element ≡ None)
+NewOwes classes store windows locals scope x (Some e) =
+    Agrees classes store windows locals scope e × NotShut store windows (value_of classes store locals e)
+    × (k : Class) × (class_named classes x ≡ Some k) × (t : Written) × (k.element ≡ Some t)
+
 -- what the rules and the invariant give of a right side that makes no call
 abbrev pub RightOwes : List Class → List Seen → List Window → List Local → Scope → Right → Type 0
 RightOwes classes store windows locals scope (value e) = Agrees classes store windows locals scope e
-RightOwes classes store windows locals scope (new x) = (k : Class) × (class_named classes x ≡ Some k)
-RightOwes classes store windows locals scope (new_tmp x) = (k : Class) × (class_named classes x ≡ Some k)
-RightOwes classes store windows locals scope (new_iso x m) = (k : Class) × (class_named classes x ≡ Some k)
+RightOwes classes store windows locals scope (new x many) = NewOwes classes store windows locals scope x many
+RightOwes classes store windows locals scope (new_tmp x many) = NewOwes classes store windows locals scope x many
+RightOwes classes store windows locals scope (new_iso x many m) = NewOwes classes store windows locals scope x many
 RightOwes classes store windows locals scope (freeze y) = InRegion store (value_in locals (Some y)) × LabelsLead classes store
 RightOwes classes store windows locals scope (merge y) = InRegion store (value_in locals (Some y))
 RightOwes classes store windows locals scope read = Unit {0}
@@ -199,12 +238,16 @@ plain_words [] = refl
 plain_words (field f ∷ ms) = plain_word f.ty (opening_words ms) ∙ plain_words ms
 plain_words (method m ∷ ms) = plain_words ms
 
+plain_opening : (e : Option Written) (ms : List Member) → leads_nowhere (opening_of e ms) ≡ true
+plain_opening None ms = plain_words ms
+plain_opening (Some t) ms = plain_word t []
+
 plain-opens : (classes : List Class) (code : Code) (x : Name) (k : Class) → Opens classes code → class_named classes x ≡ Some k
     → opens_plain code (class_number classes x) ≡ true
 plain-opens classes code x k opens named =
     ap (λ l. leads_nowhere (unwrap_or (slice_get l (class_number classes x)) [])) opens
-    ∙ ap (λ o. leads_nowhere (unwrap_or o [])) (words_at classes (class_number classes x) k (class-at classes x k named))
-    ∙ plain_words k.members
+    ∙ ap (λ o. leads_nowhere (unwrap_or o [])) (words_at classes (class_number classes x) k (class_number-at classes x k named))
+    ∙ plain_opening k.element k.members
 
 module _ (classes : List Class) (code : Code) (r : Round) (scope : Scope) (n : ℕ) (old : List Seen) (items : List Item) where
   -- what is done with the value, on both sides
@@ -215,63 +258,146 @@ module _ (classes : List Class) (code : Code) (r : Round) (scope : Scope) (n : �
       → EndsAs classes code r.output (Ok (put (state r store locals managers input items) v))
       (walk code tail end 0 (v ∷ stack) (work r store slots managers input))
 
-  -- an object that is made and then used
-  made_ends : (put : Use) (x : Name) (label here : Label) (tail : List Op) (end : ℕ) (stack : List Val) (store : List Seen) (slots : List Val)
-      (locals : List Local) (managers : List Manager) (input : List ℕ) (known : Known) → (k : Class) × (class_named classes x ≡ Some k)
-      → Middle scope n old store slots locals → Opens classes code → here ≡ label
-      → (◌≡◌ {A = Result State Trap} (Ok (elim (class_named classes x) [
-        | None ↦ state r store locals managers input items
-        | Some c
-            ↦ kept (state r (store ++ new_object classes x label ∷ []) locals managers input items) (val.Obj (length store))
-      ])) (Ok (kept (state r (store ++ new_object classes x label ∷ []) locals managers input items) (val.Obj (length store))))
-      → known (store ++ new_object classes x label ∷ []) locals managers input (val.Obj (length store)))
-      → Then known put tail end stack
-      → EndsAs classes code r.output (Ok (elim (class_named classes x) [
-        | None ↦ state r store locals managers input items
-        | Some c
-            ↦ put (state r (store ++ new_object classes x label ∷ []) locals managers input items) (val.Obj (length store))
-      ]))
+  -- a new object; `beside` is what is done with its value beside, which leaves these managers
+  new_ends : (put : Use) (beside : Use → Use) (made : List Manager) (x : Name) (label here : Label) (tail : List Op) (end : ℕ) (stack : List Val)
+      (store : List Seen) (slots : List Val) (locals : List Local) (managers : List Manager) (input : List ℕ)
+      → ((p : Use) (now : List Seen) (v : Val) → beside p (state r now locals managers input items) v ≡ p (state r now locals made input items) v)
+      → here ≡ label → Opens classes code → Middle scope n old store slots locals → NewOwes classes store r.windows locals scope x None
+      → Then (λ now after left_made left v. ◌≡◌ {A = Result State Trap} (Ok (made_plain classes (state r store locals managers input items)
+      (beside kept) x label)) (Ok (kept (state r now after left_made left items) v))) put tail end stack
+      → EndsAs classes code r.output (Ok (made_plain classes (state r store locals managers input items) (beside put) x label))
       (if opens_plain code (class_number classes x) then walk code tail end 0 (val.Obj (length store) ∷ stack)
       (work r (store ++ record {
         class = class_number classes x;
         fields = map value_of_word
             (unwrap_or (slice_get code.openings (class_number classes x)) []);
         label = here;
-      } ∷ []) slots managers input) else Stuck)
-  made_ends put x label here tail end stack store slots locals managers input known owes m opens same gave go =
+      } ∷ []) slots made input) else Stuck)
+  new_ends put beside made x label here tail end stack store slots locals managers input same at opens m owes go =
+      let s = state r store locals managers input items in
       let q = new_object classes x label in
-      let used = go (store ++ q ∷ []) slots locals managers input (val.Obj (length store))
-      (middle_store scope n old store (store ++ q ∷ []) slots locals (keeps_append old store q m.keeps) m)
-      (gave (ap (λ k. Ok (elim k [
-        | None ↦ state r store locals managers input items
-        | Some c
-            ↦ kept (state r (store ++ q ∷ []) locals managers input items) (val.Obj (length store))
-      ])) owes.1)) in
-      if_ends classes code r.output (Ok (elim (class_named classes x) [
-        | None ↦ state r store locals managers input items
-        | Some c
-            ↦ put (state r (store ++ new_object classes x label ∷ []) locals managers input items) (val.Obj (length store))
-      ])) (opens_plain code (class_number classes x))
-      (walk code tail end 0 (val.Obj (length store) ∷ stack) (work r (store ++ record {
+      let after = λ (p : Use). beside p (state r (store ++ q ∷ []) locals managers input items) (val.Obj (length store)) in
+      let goes = λ (q : Seen). walk code tail end 0 (val.Obj (length store) ∷ stack) (work r (store ++ q ∷ []) slots made input) in
+      let named = owes.1 in
+      if_ends classes code r.output (Ok (made_plain classes s (beside put) x label)) (opens_plain code (class_number classes x))
+      (goes (record {
         class = class_number classes x;
         fields = map value_of_word
             (unwrap_or (slice_get code.openings (class_number classes x)) []);
         label = here;
-      } ∷ []) slots managers input)) Stuck (plain-opens classes code x owes.0 opens owes.1)
-      (subst (λ q. EndsAs classes code r.output (Ok (elim (class_named classes x) [
-        | None ↦ state r store locals managers input items
-        | Some c
-            ↦ put (state r (store ++ new_object classes x label ∷ []) locals managers input items) (val.Obj (length store))
-      ]))
-      (walk code tail end 0 (val.Obj (length store) ∷ stack) (work r (store ++ q ∷ []) slots managers input)))
-      (sym (seen_is classes code x owes.0 label here opens owes.1 same))
-      (subst (λ o. EndsAs classes code r.output (Ok (elim o [
-        | None ↦ state r store locals managers input items
-        | Some c
-            ↦ put (state r (store ++ new_object classes x label ∷ []) locals managers input items) (val.Obj (length store))
-      ]))
-      (walk code tail end 0 (val.Obj (length store) ∷ stack) (work r (store ++ new_object classes x label ∷ []) slots managers input)))
-      (sym owes.1) used))
+      })) Stuck (plain-opens classes code x owes.0 opens named)
+      (subst (λ q. EndsAs classes code r.output (Ok (made_plain classes s (beside put) x label)) (goes q))
+      (sym (seen_is classes code x owes.0 label here opens named owes.2 at))
+      (subst (λ o. EndsAs classes code r.output (Ok (elim o [ None ↦ s | Some c ↦ after put ])) (goes q)) (sym named)
+      (subst (λ u. EndsAs classes code r.output (Ok u) (goes q)) (sym (same put (store ++ q ∷ []) (val.Obj (length store))))
+      (go (store ++ q ∷ []) slots locals made input (val.Obj (length store))
+      (middle_store scope n old store (store ++ q ∷ []) slots locals (keeps_append old store q m.keeps) m)
+      (ap (λ o. Ok (elim o [ None ↦ s | Some c ↦ after kept ])) named
+      ∙ ap (λ u. Ok u) (same kept (store ++ q ∷ []) (val.Obj (length store))))))))
+
+  -- a new array, behind its size
+  array_ends : (put : Use) (beside : Use → Use) (made : List Manager) (x : Name) (e : Expr) (label here : Label) (array : Op) (tail : List Op)
+      (at : ℕ) (stack : List Val) (store : List Seen) (slots : List Val) (locals : List Local) (managers : List Manager) (input : List ℕ)
+      → ((p : Use) (now : List Seen) (v : Val) → beside p (state r now locals managers input items) v ≡ p (state r now locals made input items) v)
+      → ((there : ℕ) (v : Val) → walk code (array ∷ tail) there 0 (v ∷ stack) (work r store slots managers input)
+      ≡ (if opens_plain code (class_number classes x) && not (is_closed (work r store slots managers input).machine v) then elim (array_size v) [
+        | Ok many ↦ walk code tail (there + 1) 0 (val.Obj (length store) ∷ stack) (work r (store ++ record {
+          class = class_number classes x;
+          fields = replicate many (opening_element (unwrap_or (slice_get code.openings (class_number classes x)) []));
+          label = here;
+        } ∷ []) slots made input)
+        | Err t ↦ Traps t
+      ] else Stuck))
+      → here ≡ label → Opens classes code → Middle scope n old store slots locals → NewOwes classes store r.windows locals scope x (Some e)
+      → Then (λ now after left_made left v. made_array classes (state r store locals managers input items) (beside kept) x e label
+      ≡ Ok (kept (state r now after left_made left items) v)) put tail (at + length (expr_code classes scope at e ++ array ∷ [])) stack
+      → EndsAs classes code r.output (made_array classes (state r store locals managers input items) (beside put) x e label)
+      (walk code ((expr_code classes scope at e ++ array ∷ []) ++ tail) at 0 stack (work r store slots managers input))
+  array_ends put beside made x e label here array tail at stack store slots locals managers input same does is opens m owes go =
+      let s = state r store locals managers input items in
+      let w = work r store slots managers input in
+      let c = owes.2 in
+      let named = owes.3 in
+      let ops = expr_code classes scope at e in
+      let end = at + length (ops ++ array ∷ []) in
+      let last : at + length ops + 1 ≡ end = omega (arith, length-append ops (array ∷ [])) in
+      let q = λ (many : ℕ). new_array classes x c many label in
+      let after = λ (p : Use) (many : ℕ). beside p (state r (store ++ q many ∷ []) locals managers input items) (val.Obj (length store)) in
+      let behind = λ (p : Use) (v : Val). ◌>>=◌ {A = ℕ} {B = State} (array_size v) (λ many. Ok (after p many)) in
+      let goes = λ (o : Seen) (to : ℕ). walk code tail to 0 (val.Obj (length store) ∷ stack) (work r (store ++ o ∷ []) slots made input) in
+      let shown : ℕ → Seen = λ many. record {
+        class = class_number classes x;
+        fields = replicate many (opening_element (unwrap_or (slice_get code.openings (class_number classes x)) []));
+        label = here;
+      } in
+      let walks : walk code ((ops ++ array ∷ []) ++ tail) at 0 stack w
+      ≡ with_value (value_of classes store locals e) (λ v. walk code (array ∷ tail) (at + length ops) 0 (v ∷ stack) w) =
+      ap (λ l. walk code l at 0 stack w) (append_assoc ops (array ∷ []) tail)
+      ∙ walk-expr classes code e locals scope at (array ∷ tail) stack w (slots_hold scope slots locals m.shows m.scope_is) owes.0 in
+      subst (λ o. EndsAs classes code r.output (elim o [
+        | None ↦ Ok s
+        | Some k ↦ ◌>>=◌ (value_of classes store locals e) (λ v.
+            ◌>>=◌ {A = ℕ} {B = State} (array_size v) (λ many.
+            Ok (beside put (state r (store ++ new_array classes x k many label ∷ []) locals managers input items) (val.Obj (length store)))))
+      ])
+      (walk code ((ops ++ array ∷ []) ++ tail) at 0 stack w)) (sym named)
+      (subst (λ y. EndsAs classes code r.output (◌>>=◌ (value_of classes store locals e) (behind put)) y) (sym walks)
+      (value_ends classes code r.output (value_of classes store locals e) (behind put) _ (λ v got.
+      subst (λ y. EndsAs classes code r.output (behind put v) y) (sym (does (at + length ops) v))
+      (if_ends classes code r.output (behind put v) (opens_plain code (class_number classes x) && not (is_closed w.machine v))
+      (elim (array_size v) [ Ok many ↦ goes (shown many) (at + length ops + 1) | Err t ↦ Traps t ]) Stuck
+      (and_from (opens_plain code (class_number classes x)) (not (is_closed w.machine v)) (plain-opens classes code x c opens named)
+      (not_from_false (is_closed w.machine v) (owes.1 v got)))
+      (object_ends classes code r.output (array_size v) (λ many. Ok (after put many)) (λ many. goes (shown many) (at + length ops + 1))
+      (λ many counts.
+      subst (λ o. EndsAs classes code r.output (Ok (after put many)) (goes o (at + length ops + 1)))
+      (sym (array_is classes code x c owes.4 many label here opens named owes.5 is))
+      (subst (λ to. EndsAs classes code r.output (Ok (after put many)) (goes (q many) to)) (sym last)
+      (subst (λ u. EndsAs classes code r.output (Ok u) (goes (q many) end)) (sym (same put (store ++ q many ∷ []) (val.Obj (length store))))
+      (go (store ++ q many ∷ []) slots locals made input (val.Obj (length store))
+      (middle_store scope n old store (store ++ q many ∷ []) slots locals (keeps_append old store (q many) m.keeps) m)
+      (ap (λ o. elim o [
+        | None ↦ Ok s
+        | Some k ↦ ◌>>=◌ (value_of classes store locals e) (λ v.
+            ◌>>=◌ {A = ℕ} {B = State} (array_size v) (λ many.
+            Ok (beside kept (state r (store ++ new_array classes x k many label ∷ []) locals managers input items) (val.Obj (length store)))))
+      ]) named
+      ∙ ap (λ o. ◌>>=◌ o (behind kept)) got
+      ∙ ap (λ o. ◌>>=◌ {A = ℕ} {B = State} o (λ many. Ok (after kept many))) counts
+      ∙ ap (λ u. Ok u) (same kept (store ++ q many ∷ []) (val.Obj (length store)))))))))))))
+
+  -- either of them
+  made_ends : (put : Use) (beside : Use → Use) (made : List Manager) (x : Name) (many : Option Expr) (label here : Label) (object array : Op)
+      (tail : List Op) (at : ℕ) (stack : List Val) (store : List Seen) (slots : List Val) (locals : List Local) (managers : List Manager)
+      (input : List ℕ)
+      → ((p : Use) (now : List Seen) (v : Val) → beside p (state r now locals managers input items) v ≡ p (state r now locals made input items) v)
+      → (walk code (object ∷ tail) at 0 stack (work r store slots managers input)
+      ≡ (if opens_plain code (class_number classes x) then walk code tail (at + 1) 0 (val.Obj (length store) ∷ stack)
+      (work r (store ++ record {
+        class = class_number classes x;
+        fields = map value_of_word
+            (unwrap_or (slice_get code.openings (class_number classes x)) []);
+        label = here;
+      } ∷ []) slots made input) else Stuck))
+      → ((there : ℕ) (v : Val) → walk code (array ∷ tail) there 0 (v ∷ stack) (work r store slots managers input)
+      ≡ (if opens_plain code (class_number classes x) && not (is_closed (work r store slots managers input).machine v) then elim (array_size v) [
+        | Ok many ↦ walk code tail (there + 1) 0 (val.Obj (length store) ∷ stack) (work r (store ++ record {
+          class = class_number classes x;
+          fields = replicate many (opening_element (unwrap_or (slice_get code.openings (class_number classes x)) []));
+          label = here;
+        } ∷ []) slots made input)
+        | Err t ↦ Traps t
+      ] else Stuck))
+      → here ≡ label → Opens classes code → Middle scope n old store slots locals → NewOwes classes store r.windows locals scope x many
+      → Then (λ now after left_made left v. made_new classes (state r store locals managers input items) (beside kept) x many label
+      ≡ Ok (kept (state r now after left_made left items) v)) put tail (at + length (new_code classes scope at object array many)) stack
+      → EndsAs classes code r.output (made_new classes (state r store locals managers input items) (beside put) x many label)
+      (walk code (new_code classes scope at object array many ++ tail) at 0 stack (work r store slots managers input))
+  made_ends put beside made x None label here object array tail at stack store slots locals managers input same one other is opens m owes go =
+      subst (λ y. EndsAs classes code r.output (Ok (made_plain classes (state r store locals managers input items) (beside put) x label)) y) (sym one)
+      (new_ends put beside made x label here tail (at + 1) stack store slots locals managers input same is opens m owes go)
+  made_ends put beside made x (Some e) label here object array tail at stack store slots locals managers input same one other is opens m owes go =
+      array_ends put beside made x e label here array tail at stack store slots locals managers input same other is opens m owes go
 
   read_ends : (put : Use) (next : NextNumber) (tail : List Op) (end : ℕ) (stack : List Val) (store : List Seen) (slots : List Val)
       (locals : List Local) (managers : List Manager) (input : List ℕ)
@@ -343,40 +469,18 @@ module _ (classes : List Class) (code : Code) (r : Round) (scope : Scope) (n : �
       (ap (λ c. ◌>>=◌ {A = State × Val} (◌>>=◌ c (λ v. Ok (state r store (cleared (uses locals e) locals) managers input items, v)))
       (λ done. Ok (kept done.0 done.1)))
       is)))
-  right_ends target put (new x) tail here stack store slots locals managers input round opens m owes need go =
-      made_ends put x (Region (active r.opened)) (Region (top_region r.windows)) tail (here + 1) stack store slots locals managers input
-      (Gave classes r items store locals managers input target (new x)) owes m opens
-      (ap Region (same_region _ r.windows r.opened round.windows)) (λ e. e) go
-  right_ends target put (new_tmp x) tail here stack store slots locals managers input round opens m owes need go =
-      made_ends put x (Temp (top_number r.opened)) (Temp (top_window r.windows)) tail (here + 1) stack store slots locals managers input
-      (Gave classes r items store locals managers input target (new_tmp x)) owes m opens
-      (ap Temp (same_window _ r.windows r.opened round.windows)) (λ e. e) go
-  right_ends target put (new_iso x k) tail here stack store slots locals managers input round opens m owes need go =
-      let label = Region (length managers) in
-      let q = new_object classes x label in
-      let after = state r (store ++ q ∷ []) locals (managers ++ k ∷ []) input items in
-      let goes = λ (q : Seen). walk code tail (here + 1) 0 (val.Obj (length store) ∷ stack)
-      (work r (store ++ q ∷ []) slots (managers ++ k ∷ []) input) in
-      let last : EndsAs classes code r.output (Ok (put after (val.Obj (length store)))) (goes q) = go (store ++ q ∷ []) slots locals
-      (managers ++ k ∷ []) input (val.Obj (length store))
-      (middle_store scope n old store (store ++ q ∷ []) slots locals (keeps_append old store q m.keeps) m)
-      (ap (λ k. Ok (elim k [
-        | None ↦ state r store locals managers input items
-        | Some c
-            ↦ kept (after) (val.Obj (length store))
-      ])) owes.1) in
-      if_ends classes code r.output (with_right classes (state r store locals managers input items) target put (new_iso x k))
-      (opens_plain code (class_number classes x))
-      (goes (record {
-        class = class_number classes x;
-        fields = map value_of_word
-            (unwrap_or (slice_get code.openings (class_number classes x)) []);
-        label = label;
-      })) Stuck (plain-opens classes code x owes.0 opens owes.1)
-      (subst (λ q. EndsAs classes code r.output (with_right classes (state r store locals managers input items) target put (new_iso x k)) (goes q))
-      (sym (seen_is classes code x owes.0 label label opens owes.1 refl))
-      (subst (λ o. EndsAs classes code r.output (Ok (elim o
-      [ None ↦ state r store locals managers input items | Some c ↦ put after (val.Obj (length store)) ])) (goes q)) (sym owes.1) last))
+  right_ends target put (new x many) tail here stack store slots locals managers input round opens m owes need go =
+      made_ends put (λ p. p) managers x many (Region (active r.opened)) (Region (top_region r.windows)) (i.New (class_number classes x))
+      (i.NewArray (class_number classes x)) tail here stack store slots locals managers input (λ p now v. refl) refl (λ there v. refl)
+      (ap Region (same_region _ r.windows r.opened round.windows)) opens m owes go
+  right_ends target put (new_tmp x many) tail here stack store slots locals managers input round opens m owes need go =
+      made_ends put (λ p. p) managers x many (Temp (top_number r.opened)) (Temp (top_window r.windows)) (i.NewTmp (class_number classes x))
+      (i.NewTmpArray (class_number classes x)) tail here stack store slots locals managers input (λ p now v. refl) refl (λ there v. refl)
+      (ap Temp (same_window _ r.windows r.opened round.windows)) opens m owes go
+  right_ends target put (new_iso x many k) tail here stack store slots locals managers input round opens m owes need go =
+      made_ends put (with_region k) (managers ++ k ∷ []) x many (Region (length managers)) (Region (length managers))
+      (i.NewIso (class_number classes x) k) (i.NewIsoArray (class_number classes x) k) tail here stack store slots locals managers input
+      (λ p now v. refl) refl (λ there v. refl) refl opens m owes go
   right_ends target put (freeze y) tail here stack store slots locals managers input round opens m owes need go =
       if_ends classes code r.output (with_right classes (state r store locals managers input items) target put (freeze y))
       (needs code (i.Freeze (slot_of scope (Some y))) stack (work r store slots managers input).machine)
@@ -416,5 +520,5 @@ module _ (classes : List Class) (code : Code) (r : Round) (scope : Scope) (n : �
 pub walk-pace : (classes : List Class) (code : Code) (right : Right) (rest : List Op) (here : ℕ) (w : Work)
     → walk code (pace_code right ++ rest) here 0 [] w ≡ walk code rest (here + length (pace_code right)) 0 [] w
 walk-pace classes code (value e) rest here w = let e : here ≡ here + 0 = omega arith in ap (λ n. walk code rest n 0 [] w) e
-walk-pace classes code (new x) rest here w = refl
+walk-pace classes code (new x many) rest here w = refl
 walk-pace classes code _ rest here w = let e : here ≡ here + 0 = omega arith in ap (λ n. walk code rest n 0 [] w) e

@@ -95,8 +95,8 @@ pub value_ends : (classes : List Class) (code : Code) (before : List Val) (c : C
 value_ends classes code before (Ok v) k go h = h v refl
 value_ends classes code before (Err t) k go h = refl
 
-pub object_ends : (classes : List Class) (code : Code) (before : List Val) (r : Result Seen Trap) (k : Seen → Result State Trap)
-    (go : Seen → Walked) → ((o : Seen) → r ≡ Ok o → EndsAs classes code before (k o) (go o))
+pub object_ends : {A : Type 0} (classes : List Class) (code : Code) (before : List Val) (r : Result A Trap) (k : A → Result State Trap)
+    (go : A → Walked) → ((o : A) → r ≡ Ok o → EndsAs classes code before (k o) (go o))
     → EndsAs classes code before (◌>>=◌ r k) (elim r [ Ok o ↦ go o | Err t ↦ Traps t ])
 object_ends classes code before (Ok o) k go h = h o refl
 object_ends classes code before (Err t) k go h = refl
@@ -143,9 +143,10 @@ pub record RoundShows (r : Round) (size : ℕ) : Type 0 where
   pub frames : ShowsFrames r.frames r.bodies
   pub windows : ShowsWindows (reverse (size ∷ map (λ (f : Frame). length f.slots) r.frames)) r.windows r.opened
 
--- objects keep their classes
+-- objects keep their classes, and have as many fields
 abbrev pub Keeps : List Seen → List Seen → Type 0
-Keeps old new = (a : ℕ) (o : Seen) → slice_get old a ≡ Some o → (q : Seen) × (slice_get new a ≡ Some q) × (q.class ≡ o.class)
+Keeps old new = (a : ℕ) (o : Seen) → slice_get old a ≡ Some o
+    → (q : Seen) × (slice_get new a ≡ Some q) × (q.class ≡ o.class) × (length q.fields ≡ length o.fields)
 
 -- slots and variables in the middle of a step
 pub record Middle (scope : Scope) (size : ℕ) (old new : List Seen) (slots : List Val) (locals : List Local) : Type 0 where
@@ -155,7 +156,7 @@ pub record Middle (scope : Scope) (size : ℕ) (old new : List Seen) (slots : Li
   pub keeps : Keeps old new
 
 pub keeps_same : (store : List Seen) → Keeps store store
-keeps_same store a o e = (o, e, refl)
+keeps_same store a o e = (o, e, refl, refl)
 
 -- a variable's slot holds its value
 pub slots_hold : (scope : Scope) (slots : List Val) (locals : List Local) → ShowsSlots slots locals → scope_of locals ≡ scope → (x : Variable)

@@ -8,7 +8,7 @@ use Rattle.rg_tree.specs.Tree.{then as next, Class}
 use Rattle.rg_rules.specs.Items.{Item, items_of}
 use Rattle.rg_code.specs.declared.op.Op.{Op}
 use Rattle.rg_code.specs.declared.op.Op.TheVariants as i
-use Rattle.rg_code.specs.Lowering.{Scope, scope_behind, kind_code, block_code}
+use Rattle.rg_code.specs.Lowering.{Scope, scope_behind, scope_at_end, kind_code, block_code}
 use Rattle.rg_code.specs.Places.{Stands, StandsIn, roomy, is_mark, Level, Lies, LiesBehind, Lying}
 use Rattle.rg_stack.proofs.Callers.Mark.{drop-stands, first-drop, starts}
 use Rattle.rg_stack.proofs.Basics.{and-left, and-right}
@@ -41,11 +41,6 @@ front_in code l at xs ys h = (stands-front code at xs ys h.0, roomy-front l.slot
 pub back_in : (code : List Op) (l : Level) (at : ℕ) (xs ys : List Op) → StandsIn code l at (xs ++ ys) → StandsIn code l (at + length xs) ys
 back_in code l at xs ys h = (stands-back code at xs ys h.0, roomy-back l.slots xs ys h.1)
 
--- the variables behind a block
-abbrev pub block_scope : List Class → Scope → Block → Scope
-block_scope classes scope none = scope
-block_scope classes scope (next (stmt line k) b) = block_scope classes (scope_behind classes scope k) b
-
 -- a statement that isn't a `return`
 abbrev pub GoesOn : StmtKind → Type 0
 GoesOn (return e) = ⊥
@@ -66,7 +61,7 @@ lies_behind classes code l ls end _ lies g h = h
 pub lies_block : (classes : List Class) (code : List Op) (b : Block) (l : Level) (ls : List Level) (at : ℕ) (after : List Item)
     → StandsIn code l at (block_code classes l.scope at b)
     → AllGoOn b
-    → Lies classes code (record l { scope = block_scope classes l.scope b } ∷ ls) after (at + length (block_code classes l.scope at b))
+    → Lies classes code (record l { scope = scope_at_end classes l.scope b } ∷ ls) after (at + length (block_code classes l.scope at b))
     → Lies classes code (l ∷ ls) (items_of b after) at
 lies_block classes code none l ls at after h g behind = let e : at + 0 ≡ at = omega arith in subst (Lies classes code (l ∷ ls) after) e behind
 lies_block classes code (next (stmt line k) b) l ls at after h g behind =
@@ -77,7 +72,7 @@ lies_block classes code (next (stmt line k) b) l ls at after h g behind =
       front_in code l at first others h,
       lies_behind classes code l ls (at + length first) k (λ levels here. Lies classes code levels (items_of b after) here) g.0
           (lies_block classes code b (record l { scope = inner }) ls (at + length first) after (back_in code l at first others h) g.1
-          (subst (Lies classes code (record l { scope = block_scope classes inner b } ∷ ls) after) e behind)),
+          (subst (Lies classes code (record l { scope = scope_at_end classes inner b } ∷ ls) after) e behind)),
     )
 
 -- a statement only adds variables
@@ -85,7 +80,7 @@ extends_kind : (classes : List Class) (k : StmtKind) (scope : Scope) → (more :
 extends_kind classes (declare x t r) scope = (_, refl)
 extends_kind classes _ scope = ([], sym (append-nil scope))
 
-pub extends : (classes : List Class) (b : Block) (scope : Scope) → (more : Scope) × (block_scope classes scope b ≡ scope ++ more)
+pub extends : (classes : List Class) (b : Block) (scope : Scope) → (more : Scope) × (scope_at_end classes scope b ≡ scope ++ more)
 extends classes none scope = ([], sym (append-nil scope))
 extends classes (next (stmt line k) b) scope =
     let here = extends_kind classes k scope in
@@ -93,8 +88,8 @@ extends classes (next (stmt line k) b) scope =
     (here.0 ++ h.0, h.1 ∙ ap (λ s. s ++ h.0) here.1 ∙ append_assoc scope here.0 h.0)
 
 -- the variables in front of a block stay behind it
-pub take-block_scope : (classes : List Class) (b : Block) (scope : Scope) → take (length scope) (block_scope classes scope b) ≡ scope
-take-block_scope classes b scope = let h = extends classes b scope in ap (take (length scope)) h.1 ∙ take-append_seam scope h.0
+pub take-at_end : (classes : List Class) (b : Block) (scope : Scope) → take (length scope) (scope_at_end classes scope b) ≡ scope
+take-at_end classes b scope = let h = extends classes b scope in ap (take (length scope)) h.1 ∙ take-append_seam scope h.0
 
 -- the instruction where one stands
 pub get-stands : (code : List Op) (at : ℕ) (o : Op) (more : List Op) → Stands code at (o ∷ more) → slice_get code at ≡ Some o

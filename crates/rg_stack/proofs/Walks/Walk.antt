@@ -1,5 +1,5 @@
 -- The code of an expression leaves the value that the expression has.
-use Rattle.std.proofs.Common.{◌≡◌, ℕ, ◌+◌, ◌-◌, true, false, Bool as Truth, ◌||◌, ◌&&◌, true≢false, if◌then◌else◌, not as negated, List, [], ◌∷◌}
+use Rattle.std.proofs.Common.{◌≡◌, ℕ, pos, ◌+◌, ◌-◌, true, false, Bool as Truth, ◌||◌, ◌&&◌, true≢false, if◌then◌else◌, not as negated, List, [], ◌∷◌}
 use Rattle.std.proofs.Common.{◌++◌, length, Result, Ok, Err, refl, sym, ap, ◌∙◌, arith, append_assoc, length-append, slice_get, unwrap_or}
 use Rattle.std.specs.Prelude.{neg_ℤ, nat_lt, is_some, option_and_then}
 use Rattle.rg_base.specs.declared.object.Seen.{Seen}
@@ -9,11 +9,11 @@ use Rattle.rg_base.specs.declared.ty.Ty.{Ty}
 use Rattle.rg_base.specs.declared.outcome.Trap.{Trap}
 use Rattle.rg_tree.specs.declared.rows.BinOp.{BinOp}
 use Rattle.rg_tree.specs.declared.rows.BinOp.TheVariants as op
-use Rattle.rg_tree.specs.Tree.{Name, Variable, Path, Expr, path, is_nil, neg, not, binary, Class}
+use Rattle.rg_tree.specs.Tree.{Name, Variable, Path, Expr, path, is_nil, neg, not, binary, size, element, Class}
 use Rattle.rg_rules.specs.Answers.{◌>>=◌}
 use Rattle.rg_rules.specs.State.{Local, value_in}
 use Rattle.rg_rules.specs.Values.{Computed, as_int, as_bool, is_nil_value, number_value, operate, decides}
-use Rattle.rg_rules.specs.Evaluation.{object_at, field_value, follow_fields, path_value, with_right_operand, value_of}
+use Rattle.rg_rules.specs.Evaluation.{object_at, element_place, element_value, field_value, follow_fields, path_value, with_right_operand, value_of}
 use Rattle.rg_code.specs.declared.op.Op.{Op}
 use Rattle.rg_code.specs.declared.op.Op.TheVariants as i
 use Rattle.rg_code.specs.Code.{Code}
@@ -21,8 +21,10 @@ use Rattle.rg_code.specs.Lowering.{Scope, slot_of, type_in, field_number, type_b
 use Rattle.rg_stack.specs.Machine.{Window, slot_at}
 use Rattle.rg_stack.specs.Needs.{closed_of, is_closed}
 use Rattle.rg_stack.specs.Labels.{label_of}
-use Rattle.rg_stack.specs.Effects.{Work, Walked, Traps, Stuck, Go, with_value}
+use Rattle.rg_stack.specs.Effects.{Work, Walked, Traps, Stuck, Go, with_value, element_in}
 use Rattle.rg_stack.specs.Given.{given_act as act, given_walk as walk}
+use Rattle.rg_stack.proofs.Walks.Index.{element-of, element-given}
+use Rattle.std.proofs.lemmas.Bool.{not_from_false}
 
 -- whether a value leads into a region that no window has open
 abbrev pub is_shut : List Seen → List Window → Val → Truth
@@ -39,6 +41,10 @@ Follows classes store windows t v (f ∷ fs) = (o : Seen) → object_at store v 
 -- the same of a path
 abbrev pub FollowsPath : List Class → List Seen → List Window → List Local → Scope → Path → Type 0
 FollowsPath classes store windows locals scope p = Follows classes store windows (type_in scope p.base) (value_in locals p.base) p.fields
+
+-- a computed value leads into no closed region
+abbrev pub NotShut : List Seen → List Window → Computed → Type 0
+NotShut store windows c = (v : Val) → c ≡ Ok v → is_shut store windows v ≡ false
 
 -- a computed value is a truth value
 abbrev pub IsTruth : Computed → Type 0
@@ -60,7 +66,8 @@ Logic op.Mul P = Unit {0}
 Logic op.Div P = Unit {0}
 Logic op.Rem P = Unit {0}
 
--- what the rules give of an expression: its paths lead along the declared types, and operands of `and` and `or` are truth values
+-- what the rules give of an expression: its paths lead along the declared types, operands of `and` and `or` are truth values, and arrays and
+-- indices lead into no closed region
 abbrev pub Agrees : List Class → List Seen → List Window → List Local → Scope → Expr → Type 0
 Agrees classes store windows locals scope (path p) = FollowsPath classes store windows locals scope p
 Agrees classes store windows locals scope (is_nil p) = FollowsPath classes store windows locals scope p
@@ -69,6 +76,11 @@ Agrees classes store windows locals scope (not a) = Agrees classes store windows
 Agrees classes store windows locals scope (binary o a b) =
     Agrees classes store windows locals scope a × Agrees classes store windows locals scope b
     × Logic o (IsTruth (value_of classes store locals a) × IsTruth (value_of classes store locals b))
+Agrees classes store windows locals scope (size q) =
+    FollowsPath classes store windows locals scope q × NotShut store windows (path_value classes store locals q)
+Agrees classes store windows locals scope (element q e) =
+    FollowsPath classes store windows locals scope q × Agrees classes store windows locals scope e
+    × NotShut store windows (path_value classes store locals q) × NotShut store windows (value_of classes store locals e)
 Agrees classes store windows locals scope _ = Unit {0}
 
 -- one thing after another
@@ -77,8 +89,8 @@ pub value_then : (c : Computed) (k : Val → Computed) (go behind : Val → Walk
 value_then (Ok v) k go behind h = h v refl
 value_then (Err t) k go behind h = refl
 
-object_then : (r : Result Seen Trap) (go : Seen → Walked) (k : Seen → Computed) (behind : Val → Walked)
-    → ((o : Seen) → r ≡ Ok o → go o ≡ with_value (k o) behind) → elim r [ Ok o ↦ go o | Err t ↦ Traps t ] ≡ with_value (◌>>=◌ r k) behind
+object_then : {A : Type 0} (r : Result A Trap) (go : A → Walked) (k : A → Computed) (behind : Val → Walked)
+    → ((o : A) → r ≡ Ok o → go o ≡ with_value (k o) behind) → elim r [ Ok o ↦ go o | Err t ↦ Traps t ] ≡ with_value (◌>>=◌ r k) behind
 object_then (Ok o) go k behind h = h o refl
 object_then (Err t) go k behind h = refl
 
@@ -88,6 +100,9 @@ object_given : (r : Result Seen Trap) (test : Seen → Truth) (go : Seen → Wal
     ≡ elim r [ Ok o ↦ go o | Err t ↦ Traps t ]
 object_given (Ok o) test go h = ap (λ b. if b then go o else Stuck) (h o refl)
 object_given (Err t) test go h = refl
+
+flat_element : (p e t : List Op) (a b c : Op) → ((p ++ a ∷ []) ++ (e ++ b ∷ c ∷ [])) ++ t ≡ p ++ (a ∷ (e ++ (b ∷ c ∷ t)))
+flat_element p e t a b c = simp append_assoc
 
 -- the two ways round
 turned : (t : Truth) (a b : Walked) → (if t then a else b) ≡ (if negated t then b else a)
@@ -156,7 +171,7 @@ module _ (classes : List Class) (code : Code) where
 
   -- an operator behind its operand
   one_run : (o : Op) (k : Val → Computed) (ops : List Op) (c : Computed) (at : ℕ) (rest : List Op) (stack : List Val) (w : Work)
-      → ((here : ℕ) (v : Val) → act code here o (walk code rest (here + 1)) (v ∷ stack) w
+      → ((here : ℕ) (v : Val) → c ≡ Ok v → act code here o (walk code rest (here + 1)) (v ∷ stack) w
       ≡ with_value (k v) (λ u. walk code rest (here + 1) 0 (u ∷ stack) w))
       → walk code (ops ++ (o ∷ rest)) at 0 stack w ≡ with_value c (λ u. walk code (o ∷ rest) (at + length ops) 0 (u ∷ stack) w)
       → walk code ((ops ++ o ∷ []) ++ rest) at 0 stack w ≡ with_value (◌>>=◌ c k) (λ u. walk code rest (at + length (ops ++ o ∷ [])) 0 (u ∷ stack) w)
@@ -165,8 +180,77 @@ module _ (classes : List Class) (code : Code) where
       ap (λ l. walk code l at 0 stack w) (append_assoc ops (o ∷ []) rest)
       ∙ before
       ∙ value_then c k (λ u. walk code (o ∷ rest) (at + length ops) 0 (u ∷ stack) w) (λ u. walk code rest (at + length ops + 1) 0 (u ∷ stack) w)
-      (λ v is. does (at + length ops) v)
+      (λ v is. does (at + length ops) v is)
       ∙ at_address rest stack w (◌>>=◌ c k) _ _ e
+
+  -- the size of an array
+  size_act : (here : ℕ) (v : Val) (rest : List Op) (stack : List Val) (w : Work) → is_shut w.machine.store w.machine.windows v ≡ false
+      → act code here i.Size (walk code rest (here + 1)) (v ∷ stack) w
+      ≡ with_value (◌>>=◌ (object_at w.machine.store v) (λ o. Ok (val.Int (pos (length o.fields)))))
+      (λ u. walk code rest (here + 1) 0 (u ∷ stack) w)
+  size_act here v rest stack w shut =
+      ap (λ b. if b then elim (object_at w.machine.store v) [
+        | Ok o ↦ walk code rest (here + 1) 0 (val.Int (pos (length o.fields)) ∷ stack) w
+        | Err t ↦ Traps t
+      ] else Stuck) (not_from_false (is_closed w.machine v) shut)
+      ∙ object_then (object_at w.machine.store v) (λ o. walk code rest (here + 1) 0 (val.Int (pos (length o.fields)) ∷ stack) w)
+      (λ o. Ok (val.Int (pos (length o.fields)))) (λ u. walk code rest (here + 1) 0 (u ∷ stack) w) (λ o there. refl)
+
+  -- an index of the array beneath it is tested
+  pub walk-bound : (r x : Val) (o : Seen) (here : ℕ) (rest : List Op) (stack : List Val) (w : Work) → object_at w.machine.store r ≡ Ok o
+      → walk code (i.Bound ∷ rest) here 0 (x ∷ r ∷ stack) w
+      ≡ elim (element_place o x) [ Ok k ↦ walk code rest (here + 1) 0 (x ∷ r ∷ stack) w | Err t ↦ Traps t ]
+  walk-bound r x o here rest stack w there =
+      ap (λ (q : Result Seen Trap). elim q [
+        | Ok o ↦ elim (element_place o x) [ Ok k ↦ walk code rest (here + 1) 0 (x ∷ r ∷ stack) w | Err t ↦ Traps t ]
+        | Err t ↦ Traps t
+      ]) there
+
+  -- and the element is read
+  index_run : (r x : Val) (o : Seen) (here : ℕ) (rest : List Op) (stack : List Val) (w : Work) → object_at w.machine.store r ≡ Ok o
+      → is_shut w.machine.store w.machine.windows r ≡ false → is_shut w.machine.store w.machine.windows x ≡ false
+      → walk code (i.Bound ∷ i.Element ∷ rest) here 0 (x ∷ r ∷ stack) w
+      ≡ with_value (element_value o x) (λ u. walk code rest (here + 1 + 1) 0 (u ∷ stack) w)
+  index_run r x o here rest stack w there array index =
+      walk-bound r x o here (i.Element ∷ rest) stack w there
+      ∙ object_then (element_place o x) (λ k. walk code (i.Element ∷ rest) (here + 1) 0 (x ∷ r ∷ stack) w)
+      (λ k. Ok (unwrap_or (slice_get o.fields k) val.Nil)) (λ u. walk code rest (here + 1 + 1) 0 (u ∷ stack) w)
+      (λ k is.
+      ap (λ b. if b then walk code rest (here + 1 + 1) 0 (element_in w.machine.store r x ∷ stack) w else Stuck)
+      (element-given code w.machine r x stack o k there is array index)
+      ∙ ap (λ u. walk code rest (here + 1 + 1) 0 (u ∷ stack) w) (element-of w.machine.store r x o k there is))
+
+  -- an element: its array, which is tested, its index, which is tested, and the element
+  element_run : (front index : List Op) (c d : Computed) (at middle : ℕ) (rest : List Op) (stack : List Val) (w : Work)
+      → middle ≡ at + length (front ++ i.Check ∷ []) → NotShut w.machine.store w.machine.windows c → NotShut w.machine.store w.machine.windows d
+      → walk code (front ++ (i.Check ∷ (index ++ (i.Bound ∷ i.Element ∷ rest)))) at 0 stack w
+      ≡ with_value c (λ u. walk code (i.Check ∷ (index ++ (i.Bound ∷ i.Element ∷ rest))) (at + length front) 0 (u ∷ stack) w)
+      → ((v : Val) → walk code (index ++ (i.Bound ∷ i.Element ∷ rest)) middle 0 (v ∷ stack) w
+      ≡ with_value d (λ u. walk code (i.Bound ∷ i.Element ∷ rest) (middle + length index) 0 (u ∷ v ∷ stack) w))
+      → walk code (((front ++ i.Check ∷ []) ++ (index ++ (i.Bound ∷ i.Element ∷ []))) ++ rest) at 0 stack w
+      ≡ with_value (◌>>=◌ c (λ v. ◌>>=◌ (object_at w.machine.store v) (λ o. ◌>>=◌ d (λ x. element_value o x))))
+      (λ u. walk code rest (at + length ((front ++ i.Check ∷ []) ++ (index ++ (i.Bound ∷ i.Element ∷ [])))) 0 (u ∷ stack) w)
+  element_run front index c d at middle rest stack w m array within one two =
+      let tail = index ++ (i.Bound ∷ i.Element ∷ rest) in
+      let whole = (front ++ i.Check ∷ []) ++ (index ++ (i.Bound ∷ i.Element ∷ [])) in
+      let here : at + length front + 1 ≡ middle = omega (arith, m, length-append front (i.Check ∷ [])) in
+      let end : middle + length index + 1 + 1 ≡ at + length whole =
+      omega (arith, m, length-append (front ++ i.Check ∷ []) (index ++ (i.Bound ∷ i.Element ∷ [])), length-append index (i.Bound ∷ i.Element ∷ [])) in
+      ap (λ l. walk code l at 0 stack w) (flat_element front index rest i.Check i.Bound i.Element)
+      ∙ one
+      ∙ value_then c (λ v. ◌>>=◌ (object_at w.machine.store v) (λ o. ◌>>=◌ d (λ x. element_value o x)))
+      (λ v. walk code (i.Check ∷ tail) (at + length front) 0 (v ∷ stack) w) (λ u. walk code rest (at + length whole) 0 (u ∷ stack) w)
+      (λ v got.
+      object_then (object_at w.machine.store v) (λ o. walk code tail (at + length front + 1) 0 (v ∷ stack) w)
+      (λ o. ◌>>=◌ d (λ x. element_value o x)) (λ u. walk code rest (at + length whole) 0 (u ∷ stack) w)
+      (λ o there.
+      ap (λ n. walk code tail n 0 (v ∷ stack) w) here
+      ∙ two v
+      ∙ value_then d (λ x. element_value o x) (λ x. walk code (i.Bound ∷ i.Element ∷ rest) (middle + length index) 0 (x ∷ v ∷ stack) w)
+      (λ u. walk code rest (at + length whole) 0 (u ∷ stack) w)
+      (λ x is.
+      index_run v x o (middle + length index) rest stack w there (array v got) (within x is)
+      ∙ at_address rest stack w (element_value o x) _ _ end)))
 
   -- an operator behind its two operands
   two_run : (b : BinOp) (o : Op) (left right : List Op) (c d : Computed) (at middle : ℕ) (rest : List Op) (stack : List Val) (w : Work)
@@ -264,15 +348,15 @@ module _ (classes : List Class) (code : Code) where
   walk-expr (path p) locals scope at rest stack w slots h = walk-path p locals scope at rest stack w slots h
   walk-expr (is_nil p) locals scope at rest stack w slots h =
       one_run i.IsNil (λ v. Ok (val.Bool (is_nil_value v))) (path_code classes scope p.base p.fields) (path_value classes w.machine.store locals p)
-      at rest stack w (λ here v. refl)
+      at rest stack w (λ here v got. refl)
       (walk-path p locals scope at (i.IsNil ∷ rest) stack w slots h)
   walk-expr (neg a) locals scope at rest stack w slots h =
       one_run i.Neg (λ v. number_value (neg_ℤ (as_int v))) (expr_code classes scope at a) (value_of classes w.machine.store locals a) at rest stack
-      w (λ here v. refl)
+      w (λ here v got. refl)
       (walk-expr a locals scope at (i.Neg ∷ rest) stack w slots h)
   walk-expr (not a) locals scope at rest stack w slots h =
       one_run i.Not (λ v. Ok (val.Bool (negated (as_bool v)))) (expr_code classes scope at a) (value_of classes w.machine.store locals a) at rest
-      stack w (λ here v. refl)
+      stack w (λ here v got. refl)
       (walk-expr a locals scope at (i.Not ∷ rest) stack w slots h)
   walk-expr (binary op.Or a b) locals scope at rest stack w slots h =
       let left = expr_code classes scope at a in
@@ -358,4 +442,15 @@ module _ (classes : List Class) (code : Code) where
       (value_of classes w.machine.store locals b) at rest stack w
       (λ here x y. refl) (λ v. refl) (λ more. walk-expr a locals scope at more stack w slots h.0)
       (λ more v. walk-expr b locals scope (at + length left + 0) more (v ∷ stack) w slots h.1)
+  walk-expr (size q) locals scope at rest stack w slots h =
+      one_run i.Size (λ v. ◌>>=◌ (object_at w.machine.store v) (λ o. Ok (val.Int (pos (length o.fields)))))
+      (path_code classes scope q.base q.fields) (path_value classes w.machine.store locals q) at rest stack w
+      (λ here v got. size_act here v rest stack w (h.1 v got)) (walk-path q locals scope at (i.Size ∷ rest) stack w slots h.0)
+  walk-expr (element q e) locals scope at rest stack w slots h =
+      let front = path_code classes scope q.base q.fields in
+      let middle = at + length (front ++ i.Check ∷ []) in
+      let index = expr_code classes scope middle e in
+      element_run front index (path_value classes w.machine.store locals q) (value_of classes w.machine.store locals e) at middle rest stack w refl
+      h.2 h.3 (walk-path q locals scope at (i.Check ∷ (index ++ (i.Bound ∷ i.Element ∷ rest))) stack w slots h.0)
+      (λ v. walk-expr e locals scope middle (i.Bound ∷ i.Element ∷ rest) (v ∷ stack) w slots h.1)
   walk-expr _ locals scope at rest stack w slots h = refl

@@ -6,7 +6,7 @@ use Rattle.std.proofs.lemmas.Option.{none-some}
 use Rattle.rg_base.specs.declared.event.Cause.{Cause}
 use Rattle.rg_base.specs.declared.event.Cause.TheVariants.{Asked, Paced}
 use Rattle.rg_base.specs.declared.outcome.Outcome.TheVariants as outcome
-use Rattle.rg_tree.specs.Tree.{stmt, StmtKind, declare, assign, collect, Class, Tree}
+use Rattle.rg_tree.specs.Tree.{stmt, StmtKind, declare, assign, assign_element, collect, Class, Tree}
 use Rattle.rg_rules.specs.Outside.Asks.{kind_makes}
 use Rattle.rg_rules.specs.Items.{Item, Do, EndAt}
 use Rattle.rg_rules.specs.State.{Frame as Body, State, Window as Opened}
@@ -59,6 +59,7 @@ module _ (classes : List Class) (code : List Op) where
       → kind_due classes k ≡ Some Asked → Lies classes code (l ∷ ls) (Do (stmt line k) ∷ rest) at → IsStep code at (i.Collect ∷ [])
   kind-step l ls line (declare x t r) rest at left due h = absurd (no-paced (kind_makes classes (declare x t r)) due)
   kind-step l ls line (assign p r) rest at left due h = absurd (no-paced (kind_makes classes (assign p r)) due)
+  kind-step l ls line (assign_element q e r) rest at left due h = absurd (no-paced (kind_makes classes (assign_element q e r)) due)
   kind-step l ls line collect [] at left due h = absurd left
   kind-step l ls line collect (j ∷ rest) at left due h =
       let e = drop-stands code at (i.Mark line ∷ i.Collect ∷ []) h.0.0 in

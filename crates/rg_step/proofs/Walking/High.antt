@@ -93,6 +93,9 @@ making-takes : (o : Op) → making o ≡ true → takes (manner o) ≡ true
 making-takes (i.New c) e = refl
 making-takes (i.NewTmp c) e = refl
 making-takes (i.NewIso c m) e = refl
+making-takes (i.NewArray c) e = refl
+making-takes (i.NewTmpArray c) e = refl
+making-takes (i.NewIsoArray c m) e = refl
 making-takes o e = absurd (true≢false (sym e))
 
 module _ (old new : Parts) where

@@ -18,10 +18,10 @@ use Rattle.rg_tree.specs.declared.rows.StmtKind.TheVariants as kind_row
 use Rattle.rg_tree.specs.declared.rows.StmtRow.{StmtRow}
 use Rattle.rg_tree.specs.declared.rows.ExprRow.{ExprRow}
 use Rattle.rg_tree.specs.declared.rows.ExprRow.TheVariants as expr_row
-use Rattle.rg_tree.specs.Tree.{Variable, Path, Ty, int, bool, ref, Expr, number, boolean, nil, path, is_nil, neg, not, binary, Call, Right, value}
-use Rattle.rg_tree.specs.Tree.{new, new_tmp, new_iso, freeze, merge, read, more, result_of, Stmt, stmt, StmtKind, declare, assign, call, swap}
-use Rattle.rg_tree.specs.Tree.{branch, while, enter, print, collect, return, Else, no_else, otherwise, Block, empty, then, Param}
-use Rattle.rg_tree.specs.Tree.{Method as MethodTree, Member, field, method, Class, Tree}
+use Rattle.rg_tree.specs.Tree.{Variable, Path, Ty, int, bool, ref, Expr, number, boolean, nil, path, is_nil, neg, not, binary, size, element}
+use Rattle.rg_tree.specs.Tree.{Call, Right, value, new, new_tmp, new_iso, freeze, merge, read, more, result_of, Stmt, stmt, StmtKind, declare, assign}
+use Rattle.rg_tree.specs.Tree.{assign_element, call, swap, branch, while, enter, print, collect, return, Else, no_else, otherwise, Block, empty, then}
+use Rattle.rg_tree.specs.Tree.{Param, Method as MethodTree, Member, field, method, Class, Tree}
 use Rattle.rg_tree.specs.Rows.Tables.{Tables, name_at, numbers_in}
 
 -- the trees of the rows of a table, behind those that are done: each is made over the trees of the rows before it
@@ -53,6 +53,8 @@ expr_over t at (expr_row.IsNil p) = is_nil (path_of t p)
 expr_over t at (expr_row.Neg a) = neg (at a)
 expr_over t at (expr_row.Not a) = not (at a)
 expr_over t at (expr_row.Binary op a b) = binary op (at a) (at b)
+expr_over t at (expr_row.Size p) = size (path_of t p)
+expr_over t at (expr_row.At p a) = element (path_of t p) (at a)
 
 -- the expressions of the tables
 unfoldable pub exprs_of : Tables → List Expr
@@ -73,9 +75,9 @@ call_of t c = record { target = path_of t c.path; method = name_at t c.method; a
 -- a right side
 abbrev pub right_of : Tables → row_right.Right → Right
 right_of t (right_row.Expr e) = value (expr_at t e)
-right_of t (right_row.New n) = new (name_at t n)
-right_of t (right_row.NewTmp n) = new_tmp (name_at t n)
-right_of t (right_row.NewIso n m) = new_iso (name_at t n) m
+right_of t (right_row.New n o) = new (name_at t n) (option_map (expr_at t) o)
+right_of t (right_row.NewTmp n o) = new_tmp (name_at t n) (option_map (expr_at t) o)
+right_of t (right_row.NewIso n o m) = new_iso (name_at t n) (option_map (expr_at t) o) m
 right_of t (right_row.Freeze n) = freeze (name_at t n)
 right_of t (right_row.Merge n) = merge (name_at t n)
 right_of t right_row.Read = read
@@ -96,11 +98,12 @@ else_over t at (Some s) = otherwise (block_over at (numbers_in t s))
 abbrev pub kind_over : Tables → (ℕ → Stmt) → row_kind.StmtKind → StmtKind
 kind_over t at (kind_row.Let n y r) = declare (name_at t n) (type_of t y) (right_of t r)
 kind_over t at (kind_row.Set p r) = assign (path_of t p) (right_of t r)
+kind_over t at (kind_row.SetAt p e r) = assign_element (path_of t p) (expr_at t e) (right_of t r)
 kind_over t at (kind_row.Call c) = call (call_of t c)
 kind_over t at (kind_row.Swap n p) = swap (name_at t n) (path_of t p)
 kind_over t at (kind_row.If e s o) = branch (expr_at t e) (block_over at (numbers_in t s)) (else_over t at o)
 kind_over t at (kind_row.While e s) = while (expr_at t e) (block_over at (numbers_in t s))
-kind_over t at (kind_row.Enter p n s) = enter (path_of t p) (name_at t n) (block_over at (numbers_in t s))
+kind_over t at (kind_row.Enter p n s o) = enter (path_of t p) (name_at t n) (block_over at (numbers_in t s)) (option_map (name_at t) o)
 kind_over t at (kind_row.Print e) = print (expr_at t e)
 kind_over t at kind_row.Collect = collect
 kind_over t at (kind_row.Return e) = return (expr_at t e)
@@ -174,12 +177,18 @@ no_member = field (record { name = []; ty = int; line = 0 })
 abbrev pub member_at : Tables → ℕ → Member
 member_at t k = slice_index_or (members_of t) k no_member
 
+-- the members of a class, of these numbers; an array class has none
+abbrev pub members_under : Tables → (element : Option TypeRow) → Span → List Member
+members_under t None s = map (member_at t) (numbers_in t s)
+members_under t (Some y) s = []
+
 -- a class
 abbrev pub class_of : Tables → ClassRow → Class
 class_of t r = record {
   name = name_at t r.name;
   is_tmp = r.is_tmp;
-  members = map (member_at t) (numbers_in t r.members);
+  element = option_map (type_of t) r.element;
+  members = members_under t r.element r.members;
   line = r.line;
 }
 

@@ -79,6 +79,8 @@ IsExprIn t n (expr_row.IsNil p) = IsPathIn t p
 IsExprIn t n (expr_row.Neg a) = a < n
 IsExprIn t n (expr_row.Not a) = a < n
 IsExprIn t n (expr_row.Binary op a b) = (a < n) × (b < n)
+IsExprIn t n (expr_row.Size p) = IsPathIn t p
+IsExprIn t n (expr_row.At p a) = IsPathIn t p × (a < n)
 
 -- the numbers in the call name names and expressions
 pub record IsCallIn (t : Tables) (c : CallRow) : Type 0 where
@@ -89,9 +91,9 @@ pub record IsCallIn (t : Tables) (c : CallRow) : Type 0 where
 -- the numbers in the right side name names and expressions
 abbrev pub IsRightIn : Tables → Right → Type 0
 IsRightIn t (right_row.Expr e) = IsExprNumber t e
-IsRightIn t (right_row.New n) = IsNameIn t n
-IsRightIn t (right_row.NewTmp n) = IsNameIn t n
-IsRightIn t (right_row.NewIso n m) = IsNameIn t n
+IsRightIn t (right_row.New n o) = IsNameIn t n × IfSome o (IsExprNumber t)
+IsRightIn t (right_row.NewTmp n o) = IsNameIn t n × IfSome o (IsExprNumber t)
+IsRightIn t (right_row.NewIso n o m) = IsNameIn t n × IfSome o (IsExprNumber t)
 IsRightIn t (right_row.Freeze n) = IsNameIn t n
 IsRightIn t (right_row.Merge n) = IsNameIn t n
 IsRightIn t right_row.Read = ⊤
@@ -102,11 +104,12 @@ IsRightIn t (right_row.Call c) = IsCallIn t c
 abbrev pub IsKindIn : Tables → ℕ → StmtKind → Type 0
 IsKindIn t n (kind_row.Let x y r) = IsNameIn t x × IsTypeIn t y × IsRightIn t r
 IsKindIn t n (kind_row.Set p r) = IsPathIn t p × IsRightIn t r
+IsKindIn t n (kind_row.SetAt p e r) = IsPathIn t p × IsExprNumber t e × IsRightIn t r
 IsKindIn t n (kind_row.Call c) = IsCallIn t c
 IsKindIn t n (kind_row.Swap x p) = IsNameIn t x × IsPathIn t p
 IsKindIn t n (kind_row.If e s o) = IsExprNumber t e × IsSpanBelow t n s × IfSome o (IsSpanBelow t n)
 IsKindIn t n (kind_row.While e s) = IsExprNumber t e × IsSpanBelow t n s
-IsKindIn t n (kind_row.Enter p x s) = IsPathIn t p × IsNameIn t x × IsSpanBelow t n s
+IsKindIn t n (kind_row.Enter p x s o) = IsPathIn t p × IsNameIn t x × IsSpanBelow t n s × IfSome o (IsNameIn t)
 IsKindIn t n (kind_row.Print e) = IsExprNumber t e
 IsKindIn t n kind_row.Collect = ⊤
 IsKindIn t n (kind_row.Return e) = IsExprNumber t e
@@ -135,9 +138,10 @@ pub record IsMethodIn (t : Tables) (m : MethodRow) : Type 0 where
   pub result : IfSome m.result (IsTypeIn t)
   pub body : IsBlockIn t m.body
 
--- the numbers in the class name a name and members
+-- the numbers in the class name names and members
 pub record IsClassIn (t : Tables) (r : ClassRow) : Type 0 where
   pub name : IsNameIn t r.name
+  pub element : IfSome r.element (IsTypeIn t)
   pub members : IsSpanBelow t (length t.members) r.members
 
 -- P holds of each row and its number

@@ -1,6 +1,6 @@
 //! What is read from a program (docs/language.md, "The tree").
 
-ghost use Rattle.std.specs.Prelude.{◌≡◌, ◌<◌, length, Some, slice_get};
+ghost use Rattle.std.specs.Prelude.{◌≡◌, ◌<◌, All, length, map, Some, slice_get};
 
 use super::Program;
 use crate::rows::{ClassRow, ExprRow, MemberRow, ParamRow, Span, StmtRow};
@@ -59,6 +59,18 @@ impl Program {
         ensures below { IsClassIn self.now result }
     {
         row_at(&self.classes, i)
+    }
+
+    /// The members of a class, of which an array class has none.
+    pub fn members_of(&self, class: ClassRow) -> &[u32]
+        requires { IsClassIn self.now class }
+        ensures tree { map (member_at self.now) result.now ≡ (class_of self.now class).members }
+        ensures below { All (λ k. k < length self.now.members) result.now }
+    {
+        match class.element {
+            None => self.order(class.members),
+            Some(_) => &[],
+        }
     }
 
     /// The statement of a number. The statements within it come before it.

@@ -1,16 +1,13 @@
 -- Answers of calls that change the variables in place (docs/language.md, "Judgements").
-use Rattle.std.specs.Prelude.{◌≡◌, ◌<◌, Result, Ok, Err, ℕ, true, Option, Some, length}
+use Rattle.std.specs.Prelude.{◌≡◌, Result, Ok, Err, ℕ, true, Option, Some}
 use Rattle.rg_base.specs.declared.fault.Code.{Code}
 use Rattle.rg_base.specs.declared.fault.Stop.{Stop}
 use Rattle.rg_base.specs.declared.ty.Ty.{Ty}
-use Rattle.rg_tree.specs.declared.rows.Path.{Path}
 use Rattle.rg_base.specs.declared.words.Cap.TheVariants.{Mut}
 use Rattle.rg_base.specs.declared.ty.Ty.TheVariants.{Ref}
 use Rattle.rg_tree.specs.Tree.{Name}
-use Rattle.rg_tree.specs.Rows.Tables.{Tables, numbers_in}
 use Rattle.rg_rules.specs.Answers.{Answer, Lined}
 use Rattle.rg_rules.specs.Environment.{Env, with_variable, deeper}
-use Rattle.rg_rules.specs.Expressions as rules
 use Rattle.rg_rules.specs.Rights.{Called}
 use Rattle.rg_names.specs.Judged.{FailsAs}
 
@@ -18,11 +15,6 @@ use Rattle.rg_names.specs.Judged.{FailsAs}
 abbrev pub DoneAs : Answer Env → (new : Env) → Result (Unit {0}) Code → Type 0
 DoneAs rule new (Ok u) = rule ≡ Ok new
 DoneAs rule new (Err code) = rule ≡ Err code
-
--- a type comes with the variables that the rule leaves, or its code is answered
-abbrev pub TypedAs : Answer rules.Judged → (new : Env) → Result Ty Code → Type 0
-TypedAs rule new (Ok ty) = rule ≡ Ok (record { ty = ty; env = new })
-TypedAs rule new (Err code) = rule ≡ Err code
 
 -- the result of a call comes with the variables that the rule leaves, or its code is answered
 abbrev pub CalledAs : Answer Called → (new : Env) → Result (Option Ty) Code → Type 0
@@ -43,7 +35,3 @@ EnteredAs rule z new (Err code) = rule ≡ Err code
 abbrev pub LeavesAs : Lined Env → (new : Env) → Result (Unit {0}) Stop → Type 0
 LeavesAs rule new (Ok u) = rule ≡ Ok new
 LeavesAs rule new (Err stop) = FailsAs rule stop
-
--- the path has a field
-abbrev pub HasField : Tables → Path → Type 0
-HasField t p = 0 < length (numbers_in t p.fields)

@@ -1,18 +1,18 @@
-//! Assignments, to a variable and to a field (docs/language.md, "Judgements").
+//! Assignments, to a variable, a field and an element (docs/language.md, "Judgements").
 
 ghost use Rattle.std.specs.Prelude.{◌≡◌, [], OnOk, IfSome};
 ghost use Rattle.rg_tree.specs.Rows.Tables.{Tables};
-ghost use Rattle.rg_tree.specs.Rows.RowTrees.{path_of, program_of, right_of, variable_of};
-ghost use Rattle.rg_tree.specs.Rows.RowsExist.{IsNameIn, IsPathIn, IsRightIn};
+ghost use Rattle.rg_tree.specs.Rows.RowTrees.{expr_at, path_of, program_of, right_of, variable_of};
+ghost use Rattle.rg_tree.specs.Rows.RowsExist.{IsExprNumber, IsNameIn, IsPathIn, IsRightIn};
 ghost use Rattle.rg_rules.specs.Statements as rules;
 ghost use Rattle.rg_flow.specs.Scope.{env_of};
 ghost use Rattle.rg_flow.specs.States.{IsReadable};
-ghost use Rattle.rg_type.specs.Inner.Changing.{DoneAs, HasField};
+ghost use Rattle.rg_expressions.specs.Judging.{HasField};
+ghost use Rattle.rg_type.specs.Inner.Changing.{DoneAs};
 
-use crate::paths::target;
 use crate::rights::right_side;
-use crate::types::{is_iso, stays_at_depth};
-use rg_base::Code;
+use rg_base::{Code, Ty};
+use rg_expressions::{expression, is_iso, may_write, stays_at_depth, target, walk_array};
 use rg_flow::{Env, State};
 use rg_names::Book;
 use rg_tree::{Path, Right};
@@ -78,6 +78,35 @@ fn assign_field(env: &mut Env, book: &Book, path: Path, right: Right) -> Result<
         return Err(Code::CallTarget);
     }
     right_side(env, book, right, ty)?;
+    Ok(())
+}
+
+/// `q[e] = r;`
+pub fn assign_element(
+    env: &mut Env,
+    book: &Book,
+    path: Path,
+    index: u32,
+    right: Right,
+) -> Result<(), Code>
+    requires path { IsPathIn book.now.program path }
+    requires index { IsExprNumber book.now.program index }
+    requires right { IsRightIn book.now.program right }
+    requires scope { IsReadable book.now.program env.old }
+    ensures judged { let t = book.now.program in let p = path_of t path in
+        DoneAs (rules.judge_assign_element (program_of t).classes (env_of t env.old)
+        p.base p.fields (expr_at t index) (right_of t right)) (env_of t env.new) result }
+    ensures scope { OnOk result (IsReadable book.now.program env.new) }
+{
+    let array = walk_array(env, book, path)?;
+    if !may_write(array.receiver) {
+        return Err(Code::Capability);
+    }
+    if is_call(right) {
+        return Err(Code::CallTarget);
+    }
+    expression(env, book, index, Some(Ty::Int))?;
+    right_side(env, book, right, array.ty)?;
     Ok(())
 }
 

@@ -13,9 +13,9 @@ ghost use Rattle.rg_flow.specs.Scope.{env_of, pushed};
 ghost use Rattle.rg_flow.specs.States.{IsReadable};
 ghost use Rattle.rg_type.specs.Inner.Changing.{DeclaredAs, LeavesAs};
 
-use crate::faults::fault;
 use crate::rights::right_side;
 use rg_base::{Code, Memory, Stop, Ty};
+use rg_expressions::fault;
 use rg_flow::Env;
 use rg_names::Book;
 use rg_tree::{Right, TypeRow};

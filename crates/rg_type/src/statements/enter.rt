@@ -1,6 +1,7 @@
 //! `enter`, in front of its block and behind it (docs/language.md, "Judgements").
 
-ghost use Rattle.std.specs.Prelude.{◌≡◌, ◌<◌, length, [], true, Some, OnErr, OnOk, IfOk, IfSome};
+ghost use Rattle.std.specs.Prelude.{◌≡◌, ◌<◌, length, [], true, option_map, Some, OnErr, OnOk};
+ghost use Rattle.std.specs.Prelude.{IfOk, IfSome};
 ghost use Rattle.rg_base.specs.declared.limits.TheConstants.{BODY_NAMES};
 ghost use Rattle.rg_tree.specs.Rows.Tables.{Tables, name_at};
 ghost use Rattle.rg_tree.specs.Rows.RowTrees.{path_of, program_of, variable_of};
@@ -8,17 +9,25 @@ ghost use Rattle.rg_tree.specs.Rows.RowsExist.{IsNameIn, IsPathIn};
 ghost use Rattle.rg_rules.specs.Answers.{at_line};
 ghost use Rattle.rg_rules.specs.Environment.{deeper, with_variable};
 ghost use Rattle.rg_rules.specs.Statements as rules;
+ghost use Rattle.rg_names.specs.Judged.{JudgedAs};
 ghost use Rattle.rg_flow.specs.Scope.{entered, env_of};
 ghost use Rattle.rg_flow.specs.States.{IsReadable};
-ghost use Rattle.rg_type.specs.Inner.Changing.{EnteredAs, HasField, LeavesAs};
+ghost use Rattle.rg_expressions.specs.Judging.{HasField};
+ghost use Rattle.rg_type.specs.Inner.Changing.{EnteredAs, LeavesAs};
 
-use crate::faults::fault;
-use crate::paths::target;
-use crate::types::iso_class;
 use rg_base::{Cap, Code, Memory, Stop, Ty};
+use rg_expressions::{fault, is_same_type, iso_class, seen, target};
 use rg_flow::{Env, State};
 use rg_names::Book;
 use rg_tree::Path;
+
+/// What an `enter` says round its block: `q`, the name of the bridge and that of `giving`.
+#[derive(Clone, Copy)]
+pub struct Entrance {
+    pub path: Path,
+    pub name: u32,
+    pub giving: Option<u32>,
+}
 
 /// What stands in front of the block of `enter x as z` and of `enter q.f as z`.
 pub fn enter(env: &mut Env, book: &Book, path: Path, name: u32, line: u64) -> Result<(), Stop>
@@ -113,6 +122,40 @@ fn entered_field(env: &Env, book: &Book, path: Path, name: u32) -> Result<u32, C
         return Err(Code::Duplicate);
     }
     Ok(class)
+}
+
+/// At the end of the block: what `giving w` leaves there has the type of the bridge.
+pub fn given(env: &Env, book: &Book, entrance: Entrance, line: u64) -> Result<(), Stop>
+    requires name { IsNameIn book.now.program entrance.name }
+    requires giving { IfSome entrance.giving (IsNameIn book.now.program) }
+    requires scope { IsReadable book.now.program env.now }
+    ensures { let t = book.now.program in
+        JudgedAs (at_line line (rules.judge_giving (env_of t env.now) (name_at t entrance.name)
+        (option_map (name_at t) entrance.giving))) result }
+{
+    match entrance.giving {
+        None => Ok(()),
+        Some(name) => match is_bridge(env, book, name, entrance.name) {
+            Ok(()) => Ok(()),
+            Err(code) => Err(fault(code, line)),
+        },
+    }
+}
+
+// Whether a variable is seen with the type of the bridge.
+fn is_bridge(env: &Env, book: &Book, name: u32, bridge: u32) -> Result<(), Code>
+    requires name { IsNameIn book.now.program name }
+    requires bridge { IsNameIn book.now.program bridge }
+    requires scope { IsReadable book.now.program env.now }
+    ensures { let t = book.now.program in result ≡ rules.judge_giving (env_of t env.now)
+        (name_at t bridge) (Some (name_at t name)) }
+{
+    let variable = env.find(Some(name))?;
+    let bridge = env.find(Some(bridge))?;
+    if !is_same_type(seen(env, &variable), bridge.ty) {
+        return Err(Code::Mismatch);
+    }
+    Ok(())
 }
 
 /// Behind the block: a variable that was entered is ready again.

@@ -11,11 +11,9 @@ ghost use Rattle.rg_flow.specs.Scope.{env_of};
 ghost use Rattle.rg_flow.specs.States.{IsReadable};
 ghost use Rattle.rg_type.specs.Inner.Changing.{DoneAs, LeavesAs};
 
-use crate::expressions::expression;
-use crate::faults::fault;
 use crate::rights::call;
-use crate::types::is_printable;
 use rg_base::{Code, Stop, Ty};
+use rg_expressions::{expression, fault, is_printable};
 use rg_flow::Env;
 use rg_names::Book;
 use rg_tree::CallRow;

@@ -8,9 +8,8 @@ ghost use Rattle.rg_flow.specs.Scope.{env_of};
 ghost use Rattle.rg_flow.specs.States.{IsReadable};
 ghost use Rattle.rg_type.specs.Inner.Changing.{DoneAs};
 
-use crate::paths::target;
-use crate::types::{is_iso, is_same_type};
 use rg_base::Code;
+use rg_expressions::{is_iso, is_same_type, target};
 use rg_flow::Env;
 use rg_names::Book;
 use rg_tree::Path;

@@ -3,16 +3,19 @@ use Rattle.std.specs.Prelude.{◌≡◌, ℕ, Bool as Truth, false, true, List, 
 use Rattle.std.specs.declared.alloc.Global.{Global}
 use Rattle.rg_tree.specs.Rows.Tables.{Tables}
 use Rattle.rg_tree.specs.Adds.{Extends}
+use Rattle.rg_tree.specs.declared.rows.Path as row
+use Rattle.rg_verify.specs.declared.front.FrontRow.{FrontRow}
+use Rattle.rg_verify.specs.declared.front.FrontRow.TheVariants as front
 use Rattle.rg_verify.specs.declared.held.Held.{Held}
 use Rattle.rg_verify.specs.declared.held.Held.TheVariants as held
 use Rattle.rg_verify.specs.declared.held.Wait.{Wait}
 use Rattle.rg_verify.specs.declared.refusal.Refusal.{Refusal}
 use Rattle.rg_verify.specs.declared.refusal.Refusal.TheVariants as refusal
 use Rattle.rg_verify.specs.Naming.{field_name}
-use Rattle.rg_verify.specs.Raised.{Raised, path, named}
-use Rattle.rg_verify.specs.Raising.{Item, tree, waits, settle, from_path}
-use Rattle.rg_verify.specs.Rows.{AreTrees}
-use Rattle.rg_verify.specs.Inner.Adds.{AreNames, IsTree, AddsTree}
+use Rattle.rg_verify.specs.Raised.{Raised, Front, path, path_named, named}
+use Rattle.rg_verify.specs.Raising.{Item, tree, checked, indexed, waits, settle, from_path, from_checked}
+use Rattle.rg_verify.specs.Rows.{front_named, AreFronts}
+use Rattle.rg_verify.specs.Inner.Adds.{AreNames, IsTree, AddsTree, IsPath, AddsFront}
 
 -- whether an expression is a path
 abbrev pub is_path : Raised → Truth
@@ -23,10 +26,10 @@ is_path r = false
 abbrev pub IsFor : Tables → (in_method : Truth) → Held → Item → Type 0
 IsFor t m (held.Path s ns) (tree r) = (ks : List ℕ) × (r ≡ path s ks) × AreNames t ns.items (map field_name ks)
 IsFor t m (held.Tree n) (tree r) = IsTree t n (named m r) × (is_path r ≡ false)
-IsFor t m (held.Waits w) (tree r) = ⊥
-IsFor t m (held.Path s ns) (waits j a to) = ⊥
-IsFor t m (held.Tree n) (waits j a to) = ⊥
+IsFor t m (held.Checked p) (checked s ks) = IsPath t p (path_named m s ks)
+IsFor t m (held.Indexed p n) (indexed s ks e) = IsPath t p (path_named m s ks) × IsTree t n (named m e)
 IsFor t m (held.Waits w) (waits j a to) = (w.junction ≡ j) × (w.to ≡ to) × IsTree t w.left (named m a)
+IsFor t m h x = ⊥
 
 -- what is held, the topmost last, stands for a stack, whose topmost item is first
 abbrev pub Piled : Tables → (in_method : Truth) → List Held → List Item → Type 0
@@ -53,36 +56,40 @@ Makes old new m hs (Ok done) None = ⊥
 Makes old new m hs (Err refusal.NotExpression) wanted = wanted ≡ None
 Makes old new m hs (Err refusal.Memory) wanted = Unit {0}
 
--- the row that is made of an item
+-- the rows that are made of an item, by the front that it is
+abbrev pub MakesFront : (old new : Tables) → Truth → Option Front → Result FrontRow Refusal → Type 0
+MakesFront old new m x (Err refusal.Memory) = Unit {0}
+MakesFront old new m (Some f) (Ok r) = AddsFront old new r (front_named m f)
+MakesFront old new m None (Ok r) = ⊥
+MakesFront old new m (Some f) (Err refusal.NotExpression) = ⊥
+MakesFront old new m None (Err refusal.NotExpression) = Unit {0}
+
+-- the row that is made of an item, if it is a tree
 abbrev pub MakesRow : (old new : Tables) → Truth → Item → Result ℕ Refusal → Type 0
 MakesRow old new m (tree r) (Ok n) = AddsTree old new n (named m r)
-MakesRow old new m (waits j a to) (Ok n) = ⊥
 MakesRow old new m (tree r) (Err refusal.NotExpression) = ⊥
-MakesRow old new m (waits j a to) (Err refusal.NotExpression) = Unit {0}
+MakesRow old new m x (Ok n) = ⊥
+MakesRow old new m x (Err refusal.NotExpression) = Unit {0}
 MakesRow old new m x (Err refusal.Memory) = Unit {0}
 
 -- the row that is made of the topmost item, which is taken
 abbrev pub TakesRow : (old new : Tables) → Truth → List Held → List Item → Result ℕ Refusal → Type 0
 TakesRow old new m hs (tree r ∷ below) (Ok n) = AddsTree old new n (named m r) × Piled new m hs below
-TakesRow old new m hs (waits j a to ∷ below) (Ok n) = ⊥
-TakesRow old new m hs [] (Ok n) = ⊥
 TakesRow old new m hs (tree r ∷ below) (Err refusal.NotExpression) = ⊥
-TakesRow old new m hs (waits j a to ∷ below) (Err refusal.NotExpression) = Unit {0}
-TakesRow old new m hs [] (Err refusal.NotExpression) = Unit {0}
+TakesRow old new m hs items (Ok n) = ⊥
+TakesRow old new m hs items (Err refusal.NotExpression) = Unit {0}
 TakesRow old new m hs items (Err refusal.Memory) = Unit {0}
 
 -- the left operand of a junction that is held
 abbrev pub waiting : Held → Option Wait
-waiting (held.Path s ns) = None
-waiting (held.Tree n) = None
 waiting (held.Waits w) = Some w
+waiting h = None
 
 -- the left operand that is taken where it waits for this end; else the stack stays
 abbrev pub TakesWait : Tables → (in_method : Truth) → (end : ℕ) → (old new : List Held) → List Item → Option Wait → Type 0
 TakesWait t m end old new items None = (new ≡ old) × ((r : Raised) → settle end r items ≡ tree r ∷ items)
-TakesWait t m end old new [] (Some w) = ⊥
-TakesWait t m end old new (tree r ∷ below) (Some w) = ⊥
 TakesWait t m end old new (waits j a to ∷ below) (Some w) = (w.junction ≡ j) × (to ≡ end) × IsTree t w.left (named m a) × Piled t m new below
+TakesWait t m end old new items (Some w) = ⊥
 
 -- one more is held, or there is no memory
 abbrev pub Pushes : (old new : List Held) → Held → Result (Unit {0}) Refusal → Type 0
@@ -96,16 +103,33 @@ Walks old new m wanted (Ok x) = (items : List Item) × (wanted ≡ Some (items, 
 Walks old new m wanted (Err refusal.NotExpression) = wanted ≡ None
 Walks old new m wanted (Err refusal.Memory) = Unit {0}
 
--- the rows of trees in order
-abbrev pub MakesRows : (old new : Tables) → (in_method : Truth) → (wanted : Option (List Raised)) → Result (Vec ℕ Global) Refusal → Type 0
-MakesRows old new m (Some rs) (Ok rows) = Extends old new × AreTrees new rows.items (map (named m) rs)
-MakesRows old new m None (Ok rows) = ⊥
-MakesRows old new m wanted (Err refusal.NotExpression) = wanted ≡ None
-MakesRows old new m wanted (Err refusal.Memory) = Unit {0}
+-- the rows of fronts in order
+abbrev pub MakesFronts : (old new : Tables) → (in_method : Truth) → (wanted : Option (List Front)) → Result (Vec FrontRow Global) Refusal → Type 0
+MakesFronts old new m (Some fs) (Ok rows) = Extends old new × AreFronts new rows.items (map (front_named m) fs)
+MakesFronts old new m None (Ok rows) = ⊥
+MakesFronts old new m wanted (Err refusal.NotExpression) = wanted ≡ None
+MakesFronts old new m wanted (Err refusal.Memory) = Unit {0}
 
 -- the topmost path, which is taken
 abbrev pub TakesPath : Tables → (in_method : Truth) → (new : List Held) → List Item → Result (ℕ × Vec ℕ Global) Refusal → Type 0
 TakesPath t m new items (Ok x) =
     (ks : List ℕ) × (below : List Item) × (items ≡ tree (path x.0 ks) ∷ below) × AreNames t x.1.items (map field_name ks) × Piled t m new below
-TakesPath t m new items (Err refusal.NotExpression) = (f : ℕ → List ℕ → Raised) (end : ℕ) → from_path f end items ≡ None
+TakesPath t m new items (Err refusal.NotExpression) =
+    (from_checked items ≡ None) × ((f : ℕ → List ℕ → Raised) (end : ℕ) → from_path f end items ≡ None)
 TakesPath t m new items (Err refusal.Memory) = ⊥
+
+-- the topmost item, a path that was tested, which is taken
+abbrev pub TakesChecked : Tables → (in_method : Truth) → (new : List Held) → List Item → Result row.Path Refusal → Type 0
+TakesChecked t m new (checked s ks ∷ below) (Ok p) = IsPath t p (path_named m s ks) × Piled t m new below
+TakesChecked t m new (checked s ks ∷ below) (Err refusal.NotExpression) = ⊥
+TakesChecked t m new items (Ok p) = ⊥
+TakesChecked t m new items (Err refusal.NotExpression) = Unit {0}
+TakesChecked t m new items (Err refusal.Memory) = ⊥
+
+-- the topmost item, a place in an array, which is taken
+abbrev pub TakesPlace : Tables → (in_method : Truth) → (new : List Held) → List Item → Result (row.Path × ℕ) Refusal → Type 0
+TakesPlace t m new (indexed s ks e ∷ below) (Ok x) = IsPath t x.0 (path_named m s ks) × IsTree t x.1 (named m e) × Piled t m new below
+TakesPlace t m new (indexed s ks e ∷ below) (Err refusal.NotExpression) = ⊥
+TakesPlace t m new items (Ok x) = ⊥
+TakesPlace t m new items (Err refusal.NotExpression) = Unit {0}
+TakesPlace t m new items (Err refusal.Memory) = ⊥

@@ -1,5 +1,5 @@
 -- What leaving a window asks of the heap, from what holds between calls.
-use Rattle.std.proofs.Common.{◌≡◌, ℕ, ◌+◌, ◌-◌, length, drop, take, Some, slice_get}
+use Rattle.std.proofs.Common.{◌≡◌, ◌<◌, ℕ, ◌+◌, ◌-◌, length, drop, take, Some, slice_get}
 use Rattle.std.proofs.Common.{slice_index_or, sym, ap, ◌∙◌, arith}
 use Rattle.std.proofs.lemmas.List.{get_or_past, take_all}
 use Rattle.std.proofs.lemmas.Bool.{eq-eqb}
@@ -12,19 +12,22 @@ use Rattle.rg_heap.specs.Ends.{CanLeave, OneOutside, top_temps}
 use Rattle.rg_heap.specs.Opened.{Opened, IsTempOf}
 use Rattle.rg_view.proofs.Callers.Shown.{get-drop}
 
+-- the topmost window's temporaries are those of the window at the last place
+pub last-temps : (v : Stack) → length v.marks ≡ length v.windows → 0 < length v.windows
+    → drop (slice_index_or v.marks (length v.windows - 1) 0)
+    (take (slice_index_or v.marks (length v.windows - 1 + 1) (length v.temps)) v.temps) ≡ top_temps v
+last-temps v many some =
+    let last : length v.windows - 1 ≡ length v.marks - 1 = omega (arith, many) in
+    let end : slice_index_or v.marks (length v.windows - 1 + 1) (length v.temps) ≡ length v.temps =
+    get_or_past v.marks (length v.windows - 1 + 1) (length v.temps) (omega (arith, many, some)) in
+    let all : take (slice_index_or v.marks (length v.windows - 1 + 1) (length v.temps)) v.temps ≡ v.temps =
+    ap (λ n. take n v.temps) end ∙ take_all (length v.temps) v.temps (omega arith) in
+    ap (drop (slice_index_or v.marks (length v.windows - 1) 0)) all ∙ ap (λ n. drop (slice_index_or v.marks n 0) v.temps) last
+
 module _ (p : Parts) (v : Stack) (g : Grove p.cells p.regions) (o : Opened p v) where
-  -- the topmost window's temporaries are those of the window at the last place
   same-temps : drop (slice_index_or v.marks (length v.windows - 1) 0)
       (take (slice_index_or v.marks (length v.windows - 1 + 1) (length v.temps)) v.temps) ≡ top_temps v
-  same-temps =
-      let some = o.some in
-      let many = o.as_many in
-      let last : length v.windows - 1 ≡ length v.marks - 1 = omega (arith, many) in
-      let end : slice_index_or v.marks (length v.windows - 1 + 1) (length v.temps) ≡ length v.temps =
-      get_or_past v.marks (length v.windows - 1 + 1) (length v.temps) (omega (arith, many, some)) in
-      let all : take (slice_index_or v.marks (length v.windows - 1 + 1) (length v.temps)) v.temps ≡ v.temps =
-      ap (λ n. take n v.temps) end ∙ take_all (length v.temps) v.temps (omega arith) in
-      ap (drop (slice_index_or v.marks (length v.windows - 1) 0)) all ∙ ap (λ n. drop (slice_index_or v.marks n 0) v.temps) last
+  same-temps = last-temps v o.as_many o.some
 
   pub top-temp : (i s : ℕ) → slice_get (top_temps v) i ≡ Some s → IsTempOf v (length v.windows - 1) s
   top-temp i s e = (i, ap (λ xs. slice_get xs i) same-temps ∙ e)

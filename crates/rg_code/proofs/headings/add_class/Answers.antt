@@ -9,11 +9,11 @@ use Rattle.rg_code.proofs.headings.add_class.Goals as goal
 
 pub loop-member-preserved : goal.loop-member-preserved
 loop-member-preserved c =
-    member-step c.args.entries.now (name_at c.args.program.now c.args.class.name) (member_at c.args.program.now) c.order-member-items.result.now
+    member-step c.args.entries.now (name_at c.args.program.now c.args.class.name) (member_at c.args.program.now) c.members_of-member-items.result.now
     c.loop-member.member-index (map shown c.loop-member.all.items) _ _ c.loop-member-test.true c.in_ok-add_member.ensures c.loop-member.invariant
 
 pub returns : goal.returns
 returns c =
     let names = λ (ks : List ℕ). member_names (name_at c.args.program.now c.args.class.name) (map (member_at c.args.program.now) ks) in
     with_headings-end c.args.entries.now _ _ _
-    (ap names (drop_all c.loop-member.member-index c.order-member-items.result.now c.loop-member-test.false)) c.loop-member.invariant
+    (ap names (drop_all c.loop-member.member-index c.members_of-member-items.result.now c.loop-member-test.false)) c.loop-member.invariant

@@ -7,4 +7,4 @@ pub loop-class-preserved : goal.loop-class-preserved
 loop-class-preserved c =
     let t = c.args.book.now.program in
     opening-step (classes_of t) c.loop-class.class (class_of t c.class.result) c.loop-class.code c.write_opening.new.code c.class.ensures.tree
-    (rw c.order-members.ensures at c.in_ok-write_opening.ensures) ∙ c.loop-class.invariant
+    c.in_ok-write_opening.ensures ∙ c.loop-class.invariant

@@ -133,3 +133,27 @@ returns-in-Pop c = rw c.in-Pop.is (c.pop_top.ensures c.args.at)
 
 pub returns-in-Drop : goal.returns-in-Drop
 returns-in-Drop c = rw c.in-Drop.is (c.pop_top-in-Drop.ensures c.args.at)
+
+pub returns-in-NewArray : goal.returns-in-NewArray
+returns-in-NewArray c = rw c.in-NewArray.is (c.new_array.ensures c.args.at)
+
+pub returns-in-NewTmpArray : goal.returns-in-NewTmpArray
+returns-in-NewTmpArray c = rw c.in-NewTmpArray.is (c.new_temp_array.ensures c.args.at)
+
+pub returns-in-NewIsoArray : goal.returns-in-NewIsoArray
+returns-in-NewIsoArray c = rw c.in-NewIsoArray.is (c.new_iso_array.ensures c.args.at)
+
+pub returns-in-Size : goal.returns-in-Size
+returns-in-Size c = rw c.in-Size.is (c.size.ensures c.args.at)
+
+pub returns-in-Bound : goal.returns-in-Bound
+returns-in-Bound c = rw c.in-Bound.is (c.bound.ensures c.args.at)
+
+pub returns-in-Element : goal.returns-in-Element
+returns-in-Element c = rw c.in-Element.is (c.element.ensures c.args.at)
+
+pub returns-in-PutElement : goal.returns-in-PutElement
+returns-in-PutElement c = rw c.in-PutElement.is (c.put_element.ensures c.args.at)
+
+pub returns-in-LeaveGiving : goal.returns-in-LeaveGiving
+returns-in-LeaveGiving c = rw c.in-LeaveGiving.is (c.leave_giving.ensures c.args.at)

@@ -1,4 +1,4 @@
-use Rattle.std.proofs.Common.{refl}
+use Rattle.std.proofs.Common.{None, refl}
 use Rattle.rg_tree.specs.declared.rows.StmtKind.TheVariants as row
 use Rattle.rg_tree.specs.Tree as tree
 use Rattle.rg_make.specs.Inner.Adds.{kind_of, IsKindRow}
@@ -7,12 +7,12 @@ use Rattle.rg_make.proofs.builder.add_enter.Goals as goal
 
 pub put_stmt-requires : goal.put_stmt-requires
 put_stmt-requires c =
-    adds-there (adds-three {at = kind_of} {exists = IsKindRow} (λ b q z. row.Enter q z b) (λ b q z. tree.enter q z b) (λ u b q z. refl)
-    (λ u b q z x y w. (y, w, x)) (block-there c.args.program.now c.args.body c.requires) c.in_ok-path.ensures c.in_ok-name.ensures)
+    adds-there (adds-three {at = kind_of} {exists = IsKindRow} (λ b q z. row.Enter q z b None) (λ b q z. tree.enter q z b None) (λ u b q z. refl)
+    (λ u b q z x y w. (y, w, x, tt)) (block-there c.args.program.now c.args.body c.requires) c.in_ok-path.ensures c.in_ok-name.ensures)
 
 pub returns : goal.returns
 returns c =
     adds-over (tree.stmt 1)
-    (adds-three {at = kind_of} {exists = IsKindRow} (λ b q z. row.Enter q z b) (λ b q z. tree.enter q z b) (λ u b q z. refl)
-    (λ u b q z x y w. (y, w, x)) (block-there c.args.program.now c.args.body c.requires) c.in_ok-path.ensures c.in_ok-name.ensures)
+    (adds-three {at = kind_of} {exists = IsKindRow} (λ b q z. row.Enter q z b None) (λ b q z. tree.enter q z b None) (λ u b q z. refl)
+    (λ u b q z x y w. (y, w, x, tt)) (block-there c.args.program.now c.args.body c.requires) c.in_ok-path.ensures c.in_ok-name.ensures)
     c.in_ok-number.ensures

@@ -1,4 +1,4 @@
-use Rattle.rg_plain.proofs.Statements.Unasked.{goes-on}
+use Rattle.rg_plain.proofs.Statements.Unasked.{does-unasked, goes-on}
 use Rattle.rg_plain.proofs.steps.row_step.Goals as goal
 
 pub returns-in-EndAt : goal.returns-in-EndAt
@@ -15,3 +15,9 @@ pub returns-in-Back : goal.returns-in-Back
 returns-in-Back g c =
     goes-on _ _ c.args.book.now.program c.args.m.now c.back_step.new.m _ _ c.back_step.ensures.step c.back_step.ensures.quiet c.back_step.ensures.fit
     c.requires.follows
+
+pub returns-in-LeaveGiving : goal.returns-in-LeaveGiving
+returns-in-LeaveGiving g c =
+    does-unasked _ _ c.args.book.now.program c.args.m.now c.leave_giving_step.new.m _ _ c.in-LeaveGiving.line c.leave_giving_step.result
+    c.outcome.result c.leave_giving_step.ensures.step c.leave_giving_step.ensures.quiet c.leave_giving_step.ensures.fit c.outcome.ensures.is
+    c.outcome.ensures.asks_nothing c.requires.follows

@@ -1,8 +1,8 @@
-use Rattle.std.proofs.Common.{◌≡◌, false, inl, inr, rules}
+use Rattle.std.proofs.Common.{◌≡◌, false, inr, rules}
 use Rattle.rg_plain.specs.Kept.{kept_of, shown}
 use Rattle.rg_plain.specs.Outcomes.{first_prints}
-use Rattle.rg_plain.proofs.Statements.Input.{does, prints}
-use Rattle.rg_plain.proofs.Statements.Unasked.{unasked}
+use Rattle.rg_plain.proofs.Statements.Input.{prints}
+use Rattle.rg_plain.proofs.Statements.Unasked.{unasked, does-unasked}
 use Rattle.rg_plain.proofs.steps.statement_step.Goals as goal
 
 pub input_step-requires-clause-left : goal.input_step-requires-clause-left
@@ -26,9 +26,6 @@ returns-in-Prints g c =
 pub returns-in-Nothing : goal.returns-in-Nothing
 returns-in-Nothing g c =
     let t = c.args.book.now.program in
-    let new = c.kind_step.new.m in
     let quiet : first_prints (shown t c.args.m.now.items.items) ≡ false = search rules in
-    unasked _ _ t c.args.m.now new _ _ c.outcome.result
-    (does t (kept_of c.args.m.now) (kept_of new) c.stmt-row.result.line c.kind_step.result c.outcome.result _ _ c.outcome.ensures.is
-    c.kind_step.ensures.step)
-    (inl quiet) c.kind_step.ensures.fit c.outcome.ensures.asks_nothing c.requires.follows
+    does-unasked _ _ t c.args.m.now c.kind_step.new.m _ _ c.stmt-row.result.line c.kind_step.result c.outcome.result c.kind_step.ensures.step quiet
+    c.kind_step.ensures.fit c.outcome.ensures.is c.outcome.ensures.asks_nothing c.requires.follows

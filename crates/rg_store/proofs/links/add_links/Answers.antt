@@ -7,6 +7,6 @@ loop-member-preserved c =
     let values_is = c.deref.ensures.value in
     record {
       within = subst (λ vs. c.in_ok-before.before ≤ length vs) values_is c.in_ok-before.ensures.within;
-      links = links-turn _ _ c.order-numbers.result.now c.loop-member.member-index _ _ _ _ _ _ _ c.loop-member-test.true values_is
+      links = links-turn _ _ c.members_of-numbers.result.now c.loop-member.member-index _ _ _ _ _ _ _ c.loop-member-test.true values_is
           c.in_ok-before.ensures.added c.loop-member.invariant.links;
     }

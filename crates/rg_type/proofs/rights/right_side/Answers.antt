@@ -1,15 +1,6 @@
 use Rattle.rg_flow.specs.Scope.{env_of}
 use Rattle.rg_type.proofs.rights.right_side.Goals as goal
 
-pub returns-in-New-clause-judged : goal.returns-in-New-clause-judged
-returns-in-New-clause-judged c = rw c.in-New.is (c.new.ensures.judged (env_of c.args.book.now.program c.args.env.now))
-
-pub returns-in-NewTmp-clause-judged : goal.returns-in-NewTmp-clause-judged
-returns-in-NewTmp-clause-judged c = rw c.in-NewTmp.is (c.new-in-NewTmp.ensures.judged (env_of c.args.book.now.program c.args.env.now))
-
-pub returns-in-NewIso-clause-judged : goal.returns-in-NewIso-clause-judged
-returns-in-NewIso-clause-judged c = rw c.in-NewIso.is (c.new-in-NewIso.ensures.judged (env_of c.args.book.now.program c.args.env.now))
-
 pub returns-in-Read-clause-judged : goal.returns-in-Read-clause-judged
 returns-in-Read-clause-judged c = rw c.in-Read.is (c.against.ensures.judged (env_of c.args.book.now.program c.args.env.now))
 

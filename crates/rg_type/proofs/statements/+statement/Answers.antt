@@ -10,7 +10,7 @@ use Rattle.rg_type.proofs.BlockSteps.{OnOk-inner, block-fails, block-room, block
 use Rattle.rg_type.proofs.Branches.{saved-past}
 use Rattle.rg_type.proofs.RowRules.{tested-room, entered-room, block-within, else-within, block-closed, block-again, if-fails-test, if-fails-first}
 use Rattle.rg_type.proofs.RowRules.{if-fails-other, if-leaves, while-fails-at-test, while-fails-within, loop-within, loop-closed, while-uncovered}
-use Rattle.rg_type.proofs.RowRules.{while-leaves, enter-fails-at-head, enter-fails-within, window-within, enter-leaves}
+use Rattle.rg_type.proofs.RowRules.{while-leaves, enter-fails-at-head, enter-fails-within, enter-fails-at-end, window-within, enter-leaves}
 use Rattle.rg_type.proofs.statements.+statement.Goals as goal
 
 pub block-statement-requires : goal.block-statement-requires
@@ -213,7 +213,7 @@ statement-window-requires t c =
     let b = rw c.in-Enter.is at c.stmt-row.ensures.below in
     let r = rw (c.stmt-row.ensures.tree, c.in-Enter.is) at c.requires.room in
     let y = above-below _ _ _ b.2 in
-    (omega (arith, d, y), ((b.0, (b.1, (IsBlockIn-below _ _ _ c.requires.statement b.2, (c.requires.scope, r))))))
+    (omega (arith, d, y), ((b.0, (b.1, (b.3, (IsBlockIn-below _ _ _ c.requires.statement b.2, (c.requires.scope, r)))))))
 
 pub statement-returns-in-Set-clause-judged : goal.statement-returns-in-Set-clause-judged
 statement-returns-in-Set-clause-judged t c =
@@ -222,6 +222,14 @@ statement-returns-in-Set-clause-judged t c =
 pub statement-returns-in-Set-clause-scope : goal.statement-returns-in-Set-clause-scope
 statement-returns-in-Set-clause-scope t c =
     OnOk-inner _ c.at_line.result c.assign.result c.at_line.ensures.ok c.assign.ensures.scope
+
+pub statement-returns-in-SetAt-clause-judged : goal.statement-returns-in-SetAt-clause-judged
+statement-returns-in-SetAt-clause-judged t c =
+    rw (c.stmt-row.ensures.tree, c.in-SetAt.is) (c.at_line-in-SetAt.ensures.judged _ _ c.assign_element.ensures.judged)
+
+pub statement-returns-in-SetAt-clause-scope : goal.statement-returns-in-SetAt-clause-scope
+statement-returns-in-SetAt-clause-scope t c =
+    OnOk-inner _ c.at_line-in-SetAt.result c.assign_element.result c.at_line-in-SetAt.ensures.ok c.assign_element.ensures.scope
 
 pub statement-returns-in-Call-clause-judged : goal.statement-returns-in-Call-clause-judged
 statement-returns-in-Call-clause-judged t c =
@@ -266,31 +274,39 @@ statement-returns-in-Return-clause-scope t c =
 pub window-returns-in_err-enter-clause-judged : goal.window-returns-in_err-enter-clause-judged
 window-returns-in_err-enter-clause-judged t c =
     let r = err_from_is_err_and c.from_residual.result c.from_residual.ensures.1 in
-    rw (r.1, r.2) (enter-fails-at-head c.args.book.now.program c.args.line c.args.path c.args.name c.args.body c.args.env.now c.in_err-enter.field-0.0
+    rw (r.1, r.2) (enter-fails-at-head c.args.book.now.program c.args.line c.args.entrance c.args.body c.args.env.now c.in_err-enter.field-0.0
     c.in_err-enter.ensures.judged)
 
 pub window-block-requires : goal.window-block-requires
 window-block-requires t c =
     let d = c.decreases in
-    let r = entered-room c.args.book.now.program c.args.line c.args.path c.args.name c.args.env.now c.enter.new.env c.in_ok-enter.ensures.judged in
+    let r = entered-room c.args.book.now.program c.args.line c.args.entrance c.args.env.now c.enter.new.env c.in_ok-enter.ensures.judged in
     (omega (arith, d), ((c.requires.body, (c.in_ok-enter.ensures.scope, omega (arith, r, c.requires.room)))))
 
 pub window-returns-in_err-block-clause-judged : goal.window-returns-in_err-block-clause-judged
 window-returns-in_err-block-clause-judged t c =
     let r = err_from_is_err_and c.from_residual-in_err-block.result c.from_residual-in_err-block.ensures.1 in
-    rw (r.1, r.2) (enter-fails-within c.args.book.now.program c.args.line c.args.path c.args.name c.args.body c.args.env.now c.enter.new.env
+    rw (r.1, r.2) (enter-fails-within c.args.book.now.program c.args.line c.args.entrance c.args.body c.args.env.now c.enter.new.env
     c.in_err-block.field-0.0
     c.in_ok-enter.ensures.judged c.in_err-block.ensures.judged)
 
+pub window-returns-in_err-given-clause-judged : goal.window-returns-in_err-given-clause-judged
+window-returns-in_err-given-clause-judged t c =
+    let r = err_from_is_err_and c.from_residual-in_err-given.result c.from_residual-in_err-given.ensures.1 in
+    rw (r.1, r.2) (enter-fails-at-end c.args.book.now.program c.args.line c.args.entrance c.args.body c.args.env.now c.enter.new.env c.block.new.env
+    c.in_err-given.field-0.0
+    c.in_ok-enter.ensures.judged c.in_ok-block.ensures.judged c.in_err-given.ensures)
+
 pub window-close-requires-clause-within : goal.window-close-requires-clause-within
 window-close-requires-clause-within t c =
-    let l = window-within c.args.book.now.program c.args.line c.args.path c.args.name c.args.body c.args.env.now c.enter.new.env c.block.new.env
+    let l = window-within c.args.book.now.program c.args.line c.args.entrance c.args.body c.args.env.now c.enter.new.env c.block.new.env
     c.in_ok-enter.ensures.judged c.in_ok-block.ensures.judged in
     omega (arith, l, c.save-outside.ensures.len)
 
 pub window-returns-clause-judged : goal.window-returns-clause-judged
 window-returns-clause-judged t c =
-    enter-leaves c.args.book.now.program c.args.line c.args.path c.args.name c.args.body c.args.env.now c.enter.new.env c.block.new.env
+    enter-leaves c.args.book.now.program c.args.line c.args.entrance c.args.body c.args.env.now c.enter.new.env c.block.new.env
     c.close.new.self
     c.leave.new.env
-    c.save-outside.result c.save-outside.ensures c.in_ok-enter.ensures.judged c.in_ok-block.ensures.judged c.close.ensures c.leave.ensures.left
+    c.save-outside.result c.save-outside.ensures c.in_ok-enter.ensures.judged c.in_ok-block.ensures.judged c.in_ok-given.ensures c.close.ensures
+    c.leave.ensures.left

@@ -1,6 +1,18 @@
 use Rattle.rg_tree.proofs.Adding.{extends-trans}
 use Rattle.rg_verify.proofs.Path.{taken-pile, field-tree, field-put}
+use Rattle.std.proofs.lemmas.Result.{err_from_is_err_and}
+use Rattle.std.proofs.Common.{[], ◌∷◌, ◌++◌}
+use Rattle.rg_verify.specs.Raised.{path}
+use Rattle.rg_verify.proofs.Refused.{path-refused}
 use Rattle.rg_verify.proofs.stack.put_field.Goals as goal
+
+pub returns-in_err-slot-clause-makes : goal.returns-in_err-slot-clause-makes
+returns-in_err-slot-clause-makes c items p =
+    let t = c.args.program.now in
+    let m = c.args.body.in_method in
+    let q = err_from_is_err_and c.from_residual.result c.from_residual.ensures.1 in
+    rw (q.1, q.2) (path-refused t m c.take_path.new.stack.items items c.in_err-slot.field-0.0 (λ s ks. path s (ks ++ c.args.index ∷ []))
+    c.args.end (c.in_err-slot.ensures t m items p))
 
 pub settle-requires-clause-pile : goal.settle-requires-clause-pile
 settle-requires-clause-pile c =

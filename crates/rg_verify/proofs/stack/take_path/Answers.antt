@@ -1,7 +1,7 @@
 use Rattle.std.proofs.Common.{◌≡◌, [], ◌∷◌, ◌++◌, length, ap, ◌∙◌, arith}
 use Rattle.rg_verify.specs.declared.held.Held.{Held}
 use Rattle.rg_verify.specs.declared.held.Held.TheVariants as held
-use Rattle.rg_verify.proofs.Path.{takes-no-path, takes-path}
+use Rattle.rg_verify.proofs.Path.{takes-no-path, takes-path, takes-other}
 use Rattle.rg_verify.proofs.stack.take_path.Goals as goal
 
 pub returns-in_default : goal.returns-in_default
@@ -9,8 +9,12 @@ returns-in_default c t m items p =
     let none : length c.args.stack.now.items ≡ 0 = grind (arith, c.in_default.ensures.cases) in
     takes-no-path t m c.pop.new.self.items items c.args.stack.now.items none p
 
-pub returns-in-Path : goal.returns-in-Path
-returns-in-Path c t m items p =
+pub returns-in_default-held : goal.returns-in_default-held
+returns-in_default-held c t m items p =
+    takes-other t m c.pop.new.self.items items c.args.stack.now.items c.in-Some.held c.in-Some.ensures.items c.in_default-held.not-Path p
+
+pub returns : goal.returns
+returns c t m items p =
     let news = c.pop.new.self.items in
     let is : c.args.stack.now.items ≡ news ++ held.Path c.in-Path.slot c.in-Path.fields ∷ [] =
     c.in-Some.ensures.items ∙ ap (λ (h : Held). news ++ h ∷ []) c.in-Path.is in

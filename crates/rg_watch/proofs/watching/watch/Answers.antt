@@ -4,7 +4,7 @@ use Rattle.rg_tree.specs.Rows.Tables.{Tables}
 use Rattle.rg_tree.specs.Rows.RowTrees.{program_of}
 use Rattle.rg_rules.specs.Acceptance.{Accepted}
 use Rattle.rg_watch.specs.Goes.{goes_on}
-use Rattle.rg_watch.proofs.Stand.{has-begun, is-running, stands-on}
+use Rattle.rg_watch.proofs.Stand.{begun-leads, has-begun, is-running, leads-on, stands-on}
 use Rattle.rg_watch.proofs.watching.watch.Goals as goal
 
 pub steps-init : goal.steps-init
@@ -16,6 +16,7 @@ steps-init g c =
       follows = c.requires.follows;
       stands = has-begun (program_of c.args.accepted.now.program) c.args.code.now _ _ _ _ _ _ accepted c.requires.lowers
           (c.main_manager-manager.ensures ∙ ap (λ (q : Tables). q.manager) c.program.ensures.program) c.in-Ok.ensures.begun _ _;
+      leads = begun-leads c.args.code.now _ _ _ _ _ _ c.in-Ok.ensures.begun;
     }
 
 pub step-outcome-requires-clause-runs : goal.step-outcome-requires-clause-runs
@@ -23,6 +24,12 @@ step-outcome-requires-clause-runs g c = is-running _ _ _ _ _ _ _ c.steps.invaria
 
 pub steps-preserved : goal.steps-preserved
 steps-preserved g c =
-    let step = c.step-outcome.ensures in
     let on : goes_on c.step-outcome.result ≡ true = sym c.goes_on-on.ensures ∙ c.if-not-on.false in
-    record { follows = step.follows; stands = stands-on on c.steps.invariant.stands step.step }
+    record {
+      follows = c.step-outcome.ensures.follows;
+      stands = stands-on on c.steps.invariant.stands c.step-outcome.ensures.step;
+      leads = leads-on c.step-outcome.ensures.follows c.step-outcome.ensures.step;
+    }
+
+pub bridge_given-requires : goal.bridge_given-requires
+bridge_given-requires g c = c.steps.invariant.leads

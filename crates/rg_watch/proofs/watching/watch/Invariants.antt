@@ -2,6 +2,7 @@
 use Rattle.rg_tree.specs.Rows.RowTrees.{program_of}
 use Rattle.rg_input.specs.Numbers.{Follows, OnInput}
 use Rattle.rg_machine.specs.Parts.{machine_in}
+use Rattle.rg_watch.specs.Leads.{SlotsLead}
 use Rattle.rg_watch.proofs.Stand.{StandsAt}
 use Rattle.rg_watch.proofs.watching.watch.Given as goal
 
@@ -10,4 +11,5 @@ invariant-steps g l = record {
   follows : Follows l.input (g.S.Source.left l.source);
   stands : OnInput l.fn.input l.input (g.S.Source.left l.fn.source) (g.S.Source.left l.source)
       (StandsAt (program_of l.fn.accepted.program) l.code (machine_in l.stepper.parts));
+  leads : SlotsLead l.stepper.parts;
 }

@@ -10,13 +10,13 @@ use Rattle.rg_machine.specs.Stands.{AllLead, Stands}
 use Rattle.rg_machine.proofs.Begin.{begin-machine, begin-stands, first-stack}
 use Rattle.rg_machine.proofs.machine.Machine.begin.Goals as goal
 
-no-slots : (c : goal.After-new) → c.begin.new.self.cells.heap.slots ≡ []
+no-slots : (c : goal.After-new-2) → c.begin.new.self.cells.heap.slots ≡ []
 no-slots c = ap (λ (t : Table). t.heap.slots) c.in_ok-key.ensures.cells ∙ c.new-heap.ensures.slots
 
-no-serials : (c : goal.After-new) → c.begin.new.self.cells.heap.next ≡ 0
+no-serials : (c : goal.After-new-2) → c.begin.new.self.cells.heap.next ≡ 0
 no-serials c = ap (λ (t : Table). t.heap.next) c.in_ok-key.ensures.cells ∙ c.new-heap.ensures.serials
 
-stands : (c : goal.After-new) → Stands c.begin.new.self c.begin-2.new.self
+stands : (c : goal.After-new-2) → Stands c.begin.new.self c.begin-2.new.self
 stands c = subst (λ (v : Stack). Stands c.begin.new.self v) (sym c.in_ok-begin.ensures.ok)
     (begin-stands c.begin.new.self c.new-heap.result.regions c.in_ok-key.key c.args.slots c.begin-2.new.self.frame_room c.begin-2.new.self.slot_room
     c.args.manager (no-slots c) (no-serials c) c.new-heap.ensures.records c.new-heap.ensures.numbers c.in_ok-key.ensures.added)

@@ -10,7 +10,8 @@ use Rattle.rg_parse.proofs.Growing.{found-there}
 use Rattle.rg_parse.proofs.ExprRows.{chain-start, chain-step, chain-end, chain-left_halts, chain-sign_halts, chain-right_halts, chain-there}
 use Rattle.rg_parse.proofs.ExprRows.{not-found, no_not-found, no_not-halts, not_compared-found, compared-found, compared-left_halts}
 use Rattle.rg_parse.proofs.ExprRows.{compared-sign_halts, compared-right_halts, compared-there, minus-found, no_minus-found, no_minus-halts}
-use Rattle.rg_parse.proofs.ExprRows.{no-primary, paren-row, parens-found}
+use Rattle.rg_parse.proofs.ExprRows.{no-primary, paren-row, parens-found, path-row, path-found, is_nil-found, element-found, no_is-found}
+use Rattle.rg_parse.proofs.ExprRows.{some_index-found}
 use Rattle.rg_parse.proofs.reader.Reader.+expr.Goals as goal
 
 pub chain-returns-in_err-left-clause-fault : goal.chain-returns-in_err-left-clause-fault
@@ -137,3 +138,58 @@ parens-returns-in_err-take-2-clause-fault t c = exit _ c.from_residual-in_err-ta
 
 pub parens-returns-clause-ok : goal.parens-returns-clause-ok
 parens-returns-clause-ok t c = parens-found c.in_ok-take.ensures.ok c.in_ok-inner.ensures.ok c.in_ok-take-2.ensures.ok
+
+pub path_value-returns-in_err-path-clause-fault : goal.path_value-returns-in_err-path-clause-fault
+path_value-returns-in_err-path-clause-fault t c = exit _ c.from_residual.ensures.1 (halts-row _ _ (path-row _ c.requires)
+    (halts-here _ c.in_err-path.ensures.fault))
+
+pub path_value-returns-in_err-row-clause-fault : goal.path_value-returns-in_err-row-clause-fault
+path_value-returns-in_err-row-clause-fault t c = exit _ c.from_residual-in_err-row.ensures.1 (halts-row _ _ (path-row _ c.requires)
+    (halts-found form.Path _ tt c.in_ok-path.ensures.ok (halts-here _ c.in_err-row.ensures.fault)))
+
+pub path_value-behind_path-requires : goal.path_value-behind_path-requires
+path_value-behind_path-requires t c =
+    let l = c.in_ok-path.ensures.shorter in (omega arith, found-there c.in_ok-path.ensures.ok)
+
+pub path_value-add_expr-requires : goal.path_value-add_expr-requires
+path_value-add_expr-requires t c = found-there c.in_ok-row.ensures.ok
+
+pub path_value-returns-clause-ok : goal.path_value-returns-clause-ok
+path_value-returns-clause-ok t c = path-found c.in_ok-path.ensures.ok c.in_ok-row.ensures.ok c.in_ok-number.ensures.kept
+    c.in_ok-number.ensures.means
+
+pub behind_path-returns-in_err-take-clause-fault : goal.behind_path-returns-in_err-take-clause-fault
+behind_path-returns-in_err-take-clause-fault t c = exit _ c.from_residual.ensures.1 (halts-row _ _ (ap (row p.Is) c.if-is_next.ensures)
+    (halts-here _ c.in_err-take.ensures.fault))
+
+pub behind_path-returns-in_err-take-2-clause-fault : goal.behind_path-returns-in_err-take-2-clause-fault
+behind_path-returns-in_err-take-2-clause-fault t c = exit _ c.from_residual-in_err-take-2.ensures.1
+    (halts-row _ _ (ap (row p.Is) c.if-is_next.ensures)
+    (halts-took _ c.in_ok-take.ensures.ok (halts-here _ c.in_err-take-2.ensures.fault)))
+
+pub behind_path-returns-in_ok-take-2-clause-ok : goal.behind_path-returns-in_ok-take-2-clause-ok
+behind_path-returns-in_ok-take-2-clause-ok t c = is_nil-found _ c.requires c.in_ok-take.ensures.ok c.in_ok-take-2.ensures.ok
+
+pub behind_path-returns-in_err-index-clause-fault : goal.behind_path-returns-in_err-index-clause-fault
+behind_path-returns-in_err-index-clause-fault t c = exit _ c.from_residual-in_err-index.ensures.1
+    (halts-row _ _ (ap (row p.Is) c.if-is_next-2.ensures) c.in_err-index.ensures.fault)
+
+pub behind_path-returns-in_ok-index-clause-ok : goal.behind_path-returns-in_ok-index-clause-ok
+behind_path-returns-in_ok-index-clause-ok t c = element-found _ c.requires c.in_ok-index.ensures.ok
+
+pub behind_path-returns-else-is_next-2-clause-ok : goal.behind_path-returns-else-is_next-2-clause-ok
+behind_path-returns-else-is_next-2-clause-ok t c = no_is-found _ _ c.requires c.if-is_next.ensures c.if-is_next-2.ensures
+
+pub some_index-returns-in_err-take-clause-fault : goal.some_index-returns-in_err-take-clause-fault
+some_index-returns-in_err-take-clause-fault t c = exit _ c.from_residual.ensures.1 (halts-here _ c.in_err-take.ensures.fault)
+
+pub some_index-returns-in_err-inner-clause-fault : goal.some_index-returns-in_err-inner-clause-fault
+some_index-returns-in_err-inner-clause-fault t c = exit _ c.from_residual-in_err-inner.ensures.1
+    (halts-took _ c.in_ok-take.ensures.ok (halts-here _ c.in_err-inner.ensures.fault))
+
+pub some_index-returns-in_err-take-2-clause-fault : goal.some_index-returns-in_err-take-2-clause-fault
+some_index-returns-in_err-take-2-clause-fault t c = exit _ c.from_residual-in_err-take-2.ensures.1
+    (halts-took _ c.in_ok-take.ensures.ok (halts-found form.Expr _ tt c.in_ok-inner.ensures.ok (halts-here _ c.in_err-take-2.ensures.fault)))
+
+pub some_index-returns-clause-ok : goal.some_index-returns-clause-ok
+some_index-returns-clause-ok t c = some_index-found c.in_ok-take.ensures.ok c.in_ok-inner.ensures.ok c.in_ok-take-2.ensures.ok

@@ -12,6 +12,15 @@ decreases-operand l = 16 * length l.self.now.rest + operand_rank l.level
 abbrev pub decreases-parens : goal.decreases-parens
 decreases-parens l = 16 * length l.self.now.rest + 0
 
+abbrev pub decreases-path_value : goal.decreases-path_value
+decreases-path_value l = 16 * length l.self.now.rest + 0
+
+abbrev pub decreases-behind_path : goal.decreases-behind_path
+decreases-behind_path l = 16 * length l.self.now.rest + 1
+
+abbrev pub decreases-some_index : goal.decreases-some_index
+decreases-some_index l = 16 * length l.self.now.rest + 0
+
 abbrev pub decreases-primary : goal.decreases-primary
 decreases-primary l = 16 * length l.self.now.rest + 1
 

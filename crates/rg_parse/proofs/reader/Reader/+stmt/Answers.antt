@@ -127,6 +127,12 @@ enter_row-returns-in_err-body-clause-fault t c = exit _ c.from_residual-in_err-b
     (halts-took _ c.in_ok-take.ensures.ok (halts-found form.Path _ tt c.in_ok-path.ensures.ok (halts-took _ c.in_ok-take-2.ensures.ok
     (halts-declared role.Local _ c.in_ok-name.ensures.ok (halts-here _ c.in_err-body.ensures.fault))))))
 
+pub enter_row-returns-in_err-giving-clause-fault : goal.enter_row-returns-in_err-giving-clause-fault
+enter_row-returns-in_err-giving-clause-fault t c = exit _ c.from_residual-in_err-giving.ensures.1 (halts-row _ _ (enter-row _ c.requires)
+    (halts-took _ c.in_ok-take.ensures.ok (halts-found form.Path _ tt c.in_ok-path.ensures.ok (halts-took _ c.in_ok-take-2.ensures.ok
+    (halts-declared role.Local _ c.in_ok-name.ensures.ok (halts-found form.Block _ tt c.in_ok-body.ensures.ok
+    (halts-here _ c.in_err-giving.ensures.fault)))))))
+
 pub enter_row-returns-clause-ok : goal.enter_row-returns-clause-ok
 enter_row-returns-clause-ok t c = enter-found c.in_ok-take.ensures.ok c.in_ok-path.ensures.ok c.in_ok-take-2.ensures.ok c.in_ok-name.ensures.ok
-    c.in_ok-body.ensures.ok
+    c.in_ok-body.ensures.ok c.in_ok-giving.ensures.ok

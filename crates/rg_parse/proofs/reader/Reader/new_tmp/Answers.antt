@@ -1,5 +1,5 @@
 use Rattle.rg_parse.proofs.Tokens.{exit}
-use Rattle.rg_parse.proofs.Halting.{halts-here, halts-row, halts-took}
+use Rattle.rg_parse.proofs.Halting.{halts-here, halts-row, halts-took, halts-used}
 use Rattle.rg_parse.proofs.RightRows.{new_tmp-row, new_tmp-found}
 use Rattle.rg_parse.proofs.reader.Reader.new_tmp.Goals as goal
 
@@ -11,5 +11,9 @@ pub returns-in_err-name-clause-fault : goal.returns-in_err-name-clause-fault
 returns-in_err-name-clause-fault c = exit _ c.from_residual-in_err-name.ensures.1 (halts-row _ _ (new_tmp-row _ c.requires)
     (halts-took _ c.in_ok-take.ensures.ok (halts-here _ c.in_err-name.ensures.fault)))
 
+pub returns-in_err-size-clause-fault : goal.returns-in_err-size-clause-fault
+returns-in_err-size-clause-fault c = exit _ c.from_residual-in_err-size.ensures.1 (halts-row _ _ (new_tmp-row _ c.requires)
+    (halts-took _ c.in_ok-take.ensures.ok (halts-used _ c.in_ok-name.ensures.ok (halts-here _ c.in_err-size.ensures.fault))))
+
 pub returns-clause-ok : goal.returns-clause-ok
-returns-clause-ok c = new_tmp-found c.in_ok-take.ensures.ok c.in_ok-name.ensures.ok
+returns-clause-ok c = new_tmp-found c.in_ok-take.ensures.ok c.in_ok-name.ensures.ok c.in_ok-size.ensures.ok

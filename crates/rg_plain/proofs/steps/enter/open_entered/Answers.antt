@@ -8,5 +8,5 @@ pub returns-clause-shown : goal.returns-clause-shown
 returns-clause-shown c =
     c.put_block.ensures.shown
     ∙ ap (put_row c.args.book.now.program (row.Rest c.args.body))
-    (ap (shown c.args.book.now.program) c.push_reserved.ensures.items ∙ shown-push c.args.book.now.program c.args.items.now.items (row.LeaveAt
-    c.args.kept))
+    (ap (shown c.args.book.now.program) c.push_reserved.ensures.items ∙ shown-push c.args.book.now.program c.args.items.now.items
+    c.args.leave)

@@ -11,3 +11,7 @@ returns-in-Let-clause-is c t =
 pub returns-in-Set-clause-is : goal.returns-in-Set-clause-is
 returns-in-Set-clause-is c t =
     subst (λ (k : StmtKind). SaysIs t (kind_over t (stmt_at t) k) c.said_right-in-Set.result) (sym c.in-Set.is) (c.said_right-in-Set.ensures.is t)
+
+pub returns-in-SetAt-clause-is : goal.returns-in-SetAt-clause-is
+returns-in-SetAt-clause-is c t =
+    subst (λ (k : StmtKind). SaysIs t (kind_over t (stmt_at t) k) c.said_right-in-SetAt.result) (sym c.in-SetAt.is) (c.said_right-in-SetAt.ensures.is t)

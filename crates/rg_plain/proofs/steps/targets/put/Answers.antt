@@ -1,47 +1,30 @@
-use Rattle.std.proofs.Common.{List, length, ◌∙◌, sym, ap, subst, refl}
+use Rattle.std.proofs.Common.{length, ◌∙◌, sym, ap, refl}
 use Rattle.std.proofs.lemmas.List.{with_items_is}
 use Rattle.rg_tree.specs.Rows.Tables.{name_at}
 use Rattle.rg_tree.specs.Rows.RowTrees.{classes_of}
 use Rattle.rg_rules.specs.State.{State}
-use Rattle.rg_store.specs.declared.objects.ObjectRow.{ObjectRow}
-use Rattle.rg_store.specs.Regions.{LabelsFit}
-use Rattle.rg_store.specs.Shown.{store_of, AreOfClasses}
+use Rattle.rg_store.specs.Shown.{store_of}
 use Rattle.rg_store.proofs.Callers.Write.{put_field-written}
 use Rattle.rg_plain.specs.Kept.{kept_of, plain_of}
 use Rattle.rg_plain.specs.Inner.Spots.{use_of}
+use Rattle.rg_plain.proofs.Rows.Fit.{PartsFit-stored}
 use Rattle.rg_plain.proofs.steps.targets.put.Goals as goal
 
 pub returns-in-Field-clause-put : goal.returns-in-Field-clause-put
 returns-in-Field-clause-put c input =
     let t = c.args.book.now.program in
-    let s = plain_of t (kept_of c.args.m.now) input in
+    let m = c.args.m.now in
+    let s = plain_of t (kept_of m) input in
     let fits = rw c.in-Field.is at c.requires.aim in
-    let whole = with_items_is c.args.m.now.store c.write_field.new.store (c.write_field.auto.store ∙ c.deref_mut-in-Field.ensures.len) in
-    ap (λ q. let u : State = record s { store = store_of q } in u) whole
+    ap (λ q. let u : State = record s { store = store_of q } in u)
+    (with_items_is m.store c.write_field.new.store (c.write_field.auto.store ∙ c.deref_mut-in-Field.ensures.len))
     ∙ put_field-written (classes_of t) s c.in-Field.place (name_at t c.in-Field.name) c.args.v c.deref_mut-in-Field.result.now
-    c.args.m.now.store.items (store_of c.write_field.new.store) c.deref_mut-in-Field.ensures.value refl fits.0 c.write_field.ensures.written
+    m.store.items (store_of c.write_field.new.store) c.deref_mut-in-Field.ensures.value refl fits.0 c.write_field.ensures.written
     ∙ ap (λ a. use_of t a s c.args.v) (sym c.in-Field.is)
 
 pub returns-in-Field-clause-fit : goal.returns-in-Field-clause-fit
 returns-in-Field-clause-fit c =
-    let t = c.args.book.now.program in
     let m = c.args.m.now in
-    let fits = c.requires.fit in
-    let count = length m.managers.items in
-    let whole = with_items_is m.store c.write_field.new.store (c.write_field.auto.store ∙ c.deref_mut-in-Field.ensures.len) in
-    record {
-      objects = subst (λ (q : List ObjectRow). AreOfClasses t q) (sym whole) c.write_field.ensures.objects;
-      named = fits.named;
-      below = fits.below;
-      targets = fits.targets;
-      target = fits.target;
-      items = fits.items;
-      regions = record {
-        labels =
-            subst (λ (q : List ObjectRow). LabelsFit count (store_of q)) (sym whole)
-            (c.write_field.ensures.labels count
-            (subst (λ (q : List ObjectRow). LabelsFit count (store_of q)) (sym c.deref_mut-in-Field.ensures.value) fits.regions.labels));
-        active = fits.regions.active;
-        outer = fits.regions.outer;
-      };
-    }
+    PartsFit-stored c.args.book.now.program m c.deref_mut-in-Field.result.now c.write_field.new.store _ c.deref_mut-in-Field.ensures.value
+    (with_items_is m.store c.write_field.new.store (c.write_field.auto.store ∙ c.deref_mut-in-Field.ensures.len)) c.requires.fit
+    (λ fits. c.write_field.ensures.objects) (c.write_field.ensures.labels (length m.managers.items))

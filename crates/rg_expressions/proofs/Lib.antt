@@ -1,0 +1,3 @@
+-- The lemmas that the answers of rg_expressions use; none is for crates above.
+mod PathSteps
+mod ExpressionSteps

@@ -1,5 +1,0 @@
-use Rattle.rg_names.proofs.ClassSteps.{ClassesUpTo}
-use Rattle.rg_names.proofs.build.members.Given as goal
-
-abbrev pub invariant-loop-i : goal.invariant-loop-i
-invariant-loop-i l = ClassesUpTo l.program l.i l.members.items l.methods
