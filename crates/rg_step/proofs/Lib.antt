@@ -8,5 +8,6 @@ mod Held
 mod One
 mod Slides
 mod Giving
+mod Stacked
 mod Write
 mod WriteExamples

@@ -10,3 +10,4 @@ pub mod Word
 pub mod Pass
 pub mod Reached
 pub mod Element
+pub mod Computed

@@ -7,3 +7,4 @@ pub mod Serving
 pub mod High
 pub mod Fields
 pub mod Elements
+pub mod Computing

@@ -9,13 +9,16 @@
 mod asks;
 mod calls;
 mod collecting;
+mod computing;
 mod elements;
 mod fields;
 mod kept;
 mod leap;
 mod outcome;
 mod quick;
+mod reading;
 mod room;
+mod stack;
 mod step;
 mod stepper;
 mod stopped;
