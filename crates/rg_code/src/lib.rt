@@ -8,6 +8,7 @@
 #![tactic(auto)]
 
 mod code;
+mod computes;
 mod dues;
 mod elements;
 mod headings;
