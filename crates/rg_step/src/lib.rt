@@ -22,6 +22,7 @@ mod stack;
 mod step;
 mod stepper;
 mod stopped;
+mod turn;
 mod walk;
 mod words;
 
