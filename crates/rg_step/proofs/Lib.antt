@@ -4,6 +4,7 @@ mod Walking
 mod Shapes
 mod Pacing
 mod Frees
+mod Hops
 mod Held
 mod One
 mod Slides

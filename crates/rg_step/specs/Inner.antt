@@ -8,3 +8,4 @@ pub mod High
 pub mod Fields
 pub mod Elements
 pub mod Computing
+pub mod Hops

@@ -14,6 +14,7 @@ mod elements;
 mod fields;
 mod kept;
 mod leap;
+mod numbers;
 mod outcome;
 mod quick;
 mod reading;
