@@ -21,6 +21,8 @@ FIELDS = {"CountedRun": ("ended", "Ended")}
 # These say yes, or tell something, only to be quick: their other answer may come at any time, and callers go the long way.
 FREE = {
     "rg_code::CodeList::known": "None", "rg_heap::Heap::is_at_home": "false", "rg_machine::Machine::behind": "None",
+    "rg_known::test_int": "None", "rg_known::test_slot": "None", "rg_known::operate_int": "None",
+    "rg_known::operate_slot": "None", "rg_known::quick": "None",
     "rg_pace::Pacer::ask": "false",
 }
 # Answers that no run of a program's code comes to, as their clause on when they come says: nothing need hold behind them.
@@ -48,6 +50,7 @@ NO_MEMORY = {
     "rg_move": "freeze",
     "rg_heap": "Heap::new Heap::read Heap::write Heap::swap Heap::leave Heap::freeze Heap::drop_iso Heap::collect"
                " Heap::collect_sliding Heap::numbers Heap::active Heap::serial Heap::owns",
+    "rg_known": "*",
     "rg_step": "Stepper::new Stepper::heap Stepper::frames Stepper::events Stepper::numbers",
     "rg_input": "*",
     "rg_run": "Machine::new Machine::is_fresh Machine::events Machine::numbers",

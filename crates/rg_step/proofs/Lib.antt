@@ -9,6 +9,5 @@ mod Held
 mod One
 mod Slides
 mod Giving
-mod Stacked
 mod Write
 mod WriteExamples

@@ -1,5 +1,4 @@
 -- The walk along the code of a step: its turns, what a refusal leaves, what is made, and how it ends.
-pub mod Turn
 pub mod Walks
 pub mod Clear
 pub mod Stands

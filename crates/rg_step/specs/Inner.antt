@@ -5,7 +5,4 @@ pub mod Leaps
 pub mod Held
 pub mod Serving
 pub mod High
-pub mod Fields
-pub mod Elements
-pub mod Computing
 pub mod Hops

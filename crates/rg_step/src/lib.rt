@@ -7,24 +7,15 @@
 #![tactic(auto)]
 
 mod asks;
-mod calls;
 mod collecting;
-mod computing;
-mod elements;
-mod fields;
 mod kept;
 mod leap;
-mod numbers;
 mod outcome;
-mod quick;
-mod reading;
 mod room;
-mod stack;
 mod step;
 mod stepper;
 mod stopped;
 mod turn;
 mod walk;
-mod words;
 
 pub use stepper::Stepper;

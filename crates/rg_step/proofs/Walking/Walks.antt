@@ -6,9 +6,9 @@ use Rattle.rg_heap.specs.Parts.{Parts as HeapParts}
 use Rattle.rg_machine.specs.Keeps.{SameBacks}
 use Rattle.rg_machine.specs.Parts.{Parts, machine_in}
 use Rattle.rg_machine.specs.Cores.{core_of}
+use Rattle.rg_known.specs.Walks.{walk_from}
 use Rattle.rg_step.specs.Inner.High.{MayMake}
 use Rattle.rg_step.specs.Inner.Refusals.{Stands, Unread}
-use Rattle.rg_step.specs.Inner.Walks.{walk_from}
 
 -- a walk that began at an address has come to another one
 pub record Walking (code : Code) (from : ℕ) (old : Parts) (at : ℕ) (now : Parts) : Type 0 where

@@ -1,6 +1,6 @@
 -- How many objects a walk makes (docs/architecture.md, "The stepper"): in the code of a step all that can be refused stands in front of what
 -- changes the machine, so up to an instruction that makes an object the heap is that of the start, and behind it none is made.
-use Rattle.std.specs.Prelude.{◌≡◌, ◌⊎◌, ℕ, ◌+◌, List, Option, Some, None, Result, MatchResult, drop, true, false}
+use Rattle.std.specs.Prelude.{◌≡◌, ◌⊎◌, ℕ, ◌+◌, List, Result, MatchResult, drop, true, false}
 use Rattle.rg_code.specs.declared.op.Op.{Op}
 use Rattle.rg_heap.specs.Parts.{Parts}
 use Rattle.rg_stack.specs.Refusals.{calm, orderly}
@@ -44,8 +44,3 @@ PauseMade code start new (pause.More at) = MayMake code start (at + 1) new
 -- what a step leaves of it, and what a walk leaves that has landed
 abbrev pub MadeAtMost : {A : Type 0} → (old new : Parts) → Result A Stopped → Type 0
 MadeAtMost old new result = MatchResult result (λ _. OneAtMost old new) (StopMade old new)
-
--- what a known step leaves of it, of which it makes no object; one that isn't made leaves all
-abbrev pub KnownMade : (to : Option ℕ) → (old new : Parts) → Type 0
-KnownMade None old new = new ≡ old
-KnownMade (Some to) old new = NoneMade old new

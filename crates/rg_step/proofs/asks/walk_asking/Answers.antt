@@ -6,15 +6,16 @@ use Rattle.rg_io.proofs.Content.{Rose-since}
 use Rattle.rg_input.specs.Numbers.{Answers, Looks}
 use Rattle.rg_input.proofs.Input.{OnInput-map, OnInput-both}
 use Rattle.rg_machine.specs.Core.{below_top, with_top}
+use Rattle.rg_known.specs.Walks.{walk_from}
+use Rattle.rg_known.proofs.Turn.{past-code}
 use Rattle.rg_step.specs.declared.asks.Landing.TheVariants as landing
 use Rattle.rg_step.specs.declared.stopped.Stopped.TheVariants as stopped
 use Rattle.rg_step.specs.Inner.Refusals.{stopped_by}
-use Rattle.rg_step.specs.Inner.Walks.{ComesTo, WalkEnds, walk_from}
+use Rattle.rg_step.specs.Inner.Walks.{ComesTo, WalkEnds}
 use Rattle.rg_step.proofs.Walking.Ask.{unstuck-there}
 use Rattle.rg_step.proofs.Walking.Landings.{along-more, along-read, comes-back, comes-nowhere, comes-stop, comes-unread, comes-unseen}
 use Rattle.rg_step.proofs.Walking.Landings.{lands-back, lands-nowhere, lands-stop, lands-unread, lands-unseen, never-looks, never-reads, reads-on, sees-on}
 use Rattle.rg_step.proofs.Walking.Stops.{none-fault}
-use Rattle.rg_step.proofs.Walking.Turn.{past-code}
 use Rattle.rg_step.proofs.Walking.Walks.{SoFar}
 use Rattle.rg_machine.specs.Cores.{core_of}
 use Rattle.rg_step.proofs.asks.walk_asking.Goals as goal
