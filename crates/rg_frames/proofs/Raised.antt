@@ -8,7 +8,7 @@ use Rattle.rg_base.specs.declared.value.Word.{Word}
 use Rattle.rg_base.specs.declared.value.Word.TheVariants.{Nil}
 use Rattle.rg_frames.specs.declared.rows.Frame.{Frame}
 use Rattle.rg_frames.specs.Inner.Layout.{NilFrom, Unwritten, IsPast, end_of}
-use Rattle.rg_frames.proofs.Unwriting.{got-beside}
+use Rattle.rg_frames.proofs.Unwriting.{got-beside, unwritten-top}
 
 -- where the frame beneath a frame ends, and where the top frame does
 pub end_at : (frames : List Frame) (first k : ℕ) (f : Frame) → slice_get frames k ≡ Some f → end_of frames first k ≡ f.below
@@ -25,7 +25,7 @@ got-written (z ∷ xs) zero y x e = cc
 got-written (z ∷ xs) (suc k) y x e = got-written xs k y x e
 
 -- what is nil from a place on is so from a later one
-narrow : (slots : List Word) (from then to : ℕ) → from ≤ then → then ≤ to → NilFrom slots from to → NilFrom slots then to
+pub narrow : (slots : List Word) (from then to : ℕ) → from ≤ then → then ≤ to → NilFrom slots from to → NilFrom slots then to
 narrow slots from then to a b h = record { order = b; nil = λ i w p q e. h.nil i w (omega (arith, a, p)) q e }
 
 -- the top frame's slots are nil from a later place on
@@ -74,7 +74,7 @@ unwritten-kept slots first frames live kept k was then g a b h =
     }
 
 -- what is nil stays so where a place past it is written
-nil-past : (slots : List Word) (place from to : ℕ) (w : Word) → IsPast place from to → NilFrom slots from to
+pub nil-past : (slots : List Word) (place from to : ℕ) (w : Word) → IsPast place from to → NilFrom slots from to
     → NilFrom (slice_set slots place w) from to
 nil-past slots place from to w a h = record {
   order = h.order;
@@ -133,3 +133,19 @@ pub unwritten-over : (slots : List Word) (first : ℕ) (frames : List Frame) (li
 unwritten-over slots first frames live kept place x w e d h =
     unwritten-past slots first frames live kept place w (past-by slots place live (length slots) x e d h.top)
     (λ j m p. past-by slots place m (end_of frames first (suc j)) x e d (nil-to-end slots first frames live kept j m p h)) h
+
+-- a slot of the top frame is made nil
+pub unwritten-nil : (slots : List Word) (first : ℕ) (frames : List Frame) (live : ℕ) (kept : List ℕ) (place : ℕ) → first ≤ place
+    → Unwritten slots first frames live kept → Unwritten (slice_set slots place Nil) first frames live kept
+unwritten-nil slots first frames live kept place low h =
+    let n : length (slice_set slots place Nil) ≡ length slots = length-set slots place Nil in
+    unwritten-top slots (slice_set slots place Nil) first frames live live kept n
+    (λ k x p e. got-beside slots place Nil k x (λ q. omega (arith, q, p, low)) e)
+    (record {
+      order = omega (arith, n, h.top.order);
+      nil = λ i x p q e. elim (cases_eq i place) [
+        | inl r ↦ got-written slots place Nil x (ap (slice_get (slice_set slots place Nil)) (sym r) ∙ e)
+        | inr r ↦ h.top.nil i x p (omega (arith, q, n)) (got-beside slots place Nil i x r e)
+      ];
+    })
+    h

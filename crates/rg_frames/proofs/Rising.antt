@@ -1,6 +1,6 @@
 -- Windows and marks that rise still rise with one more, and with one less.
-use Rattle.std.proofs.Common.{◌≡◌, ◌≤◌, ◌-◌, ◌++◌, ◌∷◌, ℕ, zero, suc, [], Some, List, length, take, slice_get, refl, ap, arith, length-append}
-use Rattle.std.proofs.lemmas.Option.{slice_get_within}
+use Rattle.std.proofs.Common.{◌≡◌, ◌≤◌, ◌-◌, ◌++◌, ◌∷◌, ℕ, zero, suc, [], Some, List, length, take, slice_get, get_or, refl, sym, ap, ◌∙◌, arith, length-append}
+use Rattle.std.proofs.lemmas.Option.{slice_get_within, slice_get-get_or, same_Some}
 use Rattle.std.proofs.lemmas.List.{length-take-le}
 use Rattle.rg_frames.specs.declared.rows.Window.{Window}
 use Rattle.rg_frames.specs.Stack.{BasesRise, Stack, IsTop}
@@ -96,3 +96,10 @@ lies-pop v m n d e h = rw (d, e) (record {
     length-take-le (length v.windows - 1) v.windows (omega arith),
   );
 })
+
+-- the window on top is the last one
+pub is-last : (ws : List Window) (n : ℕ) (t u : Window) → n ≡ length ws → slice_get ws (length ws - 1) ≡ Some t → u ≡ get_or ws (n - 1) u → t ≡ u
+is-last ws n t u m e f =
+    let last : slice_get ws (length ws - 1) ≡ Some (get_or ws (length ws - 1) u) =
+    slice_get-get_or ws (length ws - 1) u (slice_get_within ws (length ws - 1) t e) in
+    same_Some t u (sym e ∙ last ∙ ap (λ k. Some (get_or ws (k - 1) u)) (sym m) ∙ ap Some (sym f))

@@ -1,6 +1,6 @@
 -- What was never written stays nil through each change of the frames.
 use Rattle.std.proofs.Common.{◌≡◌, ◌≤◌, ◌<◌, ◌+◌, ◌-◌, ◌++◌, ◌∷◌, ℕ, zero, suc, [], Some, List, length, take, drop, replicate, slice_get}
-use Rattle.std.proofs.Common.{slice_set, refl, sym, ap, ◌∙◌, arith, length-append, min, ◌↔◌, Option, None, IsSome, IsNone, get_or, option_to_list}
+use Rattle.std.proofs.Common.{slice_set, refl, sym, ap, ◌∙◌, arith, length-append, ◌↔◌, Option, None, IsSome, IsNone, get_or, option_to_list}
 use Rattle.std.proofs.lemmas.Option.{slice_get_within, slice_get-get_or, same_Some}
 use Rattle.std.proofs.Math.Seq.{take-append_seam}
 use Rattle.std.proofs.lemmas.List.{length-take-le, length-replicate, take-append-drop, length-set}
@@ -8,7 +8,7 @@ use Rattle.rg_base.specs.declared.value.Word.{Word}
 use Rattle.rg_base.specs.declared.value.Word.TheVariants.{Nil}
 use Rattle.rg_frames.specs.declared.rows.Frame.{Frame}
 use Rattle.rg_frames.specs.declared.rows.Window.{Window}
-use Rattle.rg_frames.specs.Stack.{Stack, IsTop, ended, popped, mark}
+use Rattle.rg_frames.specs.Stack.{Stack, IsTop, ended, popped, pushed, pushed_of, mark}
 use Rattle.rg_frames.specs.Inner.Layout.{NilFrom, Unwritten, Lies}
 use Rattle.rg_frames.proofs.Rising.{From, old, last, got-append, got-take}
 
@@ -38,7 +38,7 @@ got-behind [] ys k j x at e =
 got-behind (y ∷ xs) ys zero j x at e = absurd (omega (arith, at))
 got-behind (y ∷ xs) ys (suc k) j x at e = got-behind xs ys k j x (omega (arith, at)) e
 
-nil-of : (n k : ℕ) (w : Word) → slice_get (replicate n Nil) k ≡ Some w → w ≡ Nil
+pub nil-of : (n k : ℕ) (w : Word) → slice_get (replicate n Nil) k ≡ Some w → w ≡ Nil
 nil-of zero k w e = absurd cc
 nil-of (suc n) zero w e = cc
 nil-of (suc n) (suc k) w e = nil-of n k w e
@@ -241,18 +241,6 @@ pub unwritten-popped : (slots : List Word) (first : ℕ) (frames over : List Fra
 unwritten-popped slots first frames over f live then kept more o m h =
     unwritten-pop slots first frames f live then kept (rw (← o, ← m) h)
 
--- no slot yet
-pub unwritten-none : Unwritten [] 0 [] 0 []
-unwritten-none = record {
-  top = record { order = omega arith; nil = λ i w p q e. absurd (omega (arith, q)) };
-  under = λ k l e p. absurd cc;
-  beneath = λ k l f p q. absurd cc;
-  rise = λ j k f g at p q. absurd cc;
-  below = λ k f p. absurd cc;
-  within = omega arith;
-  as_many = refl;
-}
-
 -- windows lie over other slots, of which there are no fewer
 pub lies-slots : (v : Stack) (slots : List Word) (first : ℕ) (frames : List Frame) (a b : ℕ) → length v.slots ≤ length slots → Lies v
     → Lies (record v { slots = slots; first = first; frames = frames; frame_room = a; slot_room = b })
@@ -328,11 +316,10 @@ nil-more slots at some h = record {
       (λ j x r t. h.nil j x (omega (arith, r)) (slice_get_within slots j x t) t) i w p e;
 }
 
-pub cleared : (slots new : List Word) (from at : ℕ) → from ≤ at → at ≤ from → take from new ≡ take from slots → length new ≡ length slots
+pub cleared : (slots new : List Word) (from at : ℕ) → at ≤ from → take from new ≡ take from slots → length new ≡ length slots
     → NilFrom new at (length new) → new ≡ take from slots ++ replicate (length slots - from) Nil
-cleared slots new from at a b t n h =
-    let e : at ≡ from = omega (arith, a, b) in
-    rw (← t, ← n) (all-nils new from (rw (← e) h))
+cleared slots new from at b t n h =
+    rw (← t, ← n) (all-ended new from (λ i w p e. h.nil i w (omega (arith, b, p)) (slice_get_within new i w e) e))
 
 pub lies-longer : (v : Stack) (slots more : List Word) (first : ℕ) (frames : List Frame) (a b : ℕ) → slots ≡ v.slots ++ more → Lies v
     → Lies (record v { slots = slots; first = first; frames = frames; frame_room = a; slot_room = b })
@@ -361,16 +348,28 @@ rest-taken xs over y e =
     let n : length over - 1 ≡ length xs = omega (arith, one-less xs over y e) in
     rw (n, e) (sym (take-append_seam xs (y ∷ [])))
 
-pub room-more : (cf ck a b cg cl k l : ℕ) → cg ≡ cf → cl ≡ ck → k + 1 ≡ a → l + 1 ≡ b → a ≤ cf → b ≤ ck
-    → min (cg - k) (cl - l) ≡ min (cf - a) (ck - b) + 1
-room-more cf ck a b cg cl k l p q r s t u = omega (arith, p, q, r, s, t, u)
-
 pub take-long : (slots : List Word) (first n : ℕ) → first ≤ length slots → n ≤ first → n ≤ length (take first slots)
 take-long slots first n a b = omega (arith, length-take-le first slots a, b)
 
-pub slots-more : (slots cut : List Word) (c d first : ℕ) → cut ≡ take first slots → d ≡ c → length slots ≤ c → first ≤ length slots
-    → d - length cut ≡ (c - length slots) + (length slots - first)
-slots-more slots cut c d first t e a b = rw t (omega (arith, e, length-take-le first slots b, a, b))
+pub is-set : (v : Stack) (slots : List Word) (place : ℕ) (w : Word) (room : ℕ) → slots ≡ slice_set v.slots place w → room ≡ v.slot_room
+    → record v { slots = slots; slot_room = room } ≡ record v { slots = slice_set v.slots place w }
+is-set v slots place w room p q = rw (p, q) refl
+
+pub is-pushed : (v : Stack) (back n first : ℕ) (slots : List Word) (frames : List Frame) (a b : ℕ) → slots ≡ v.slots ++ replicate n Nil
+    → first ≡ length v.slots → frames ≡ v.frames ++ record { back = back; below = v.first } ∷ [] → a ≡ v.frame_room - 1 → b ≡ v.slot_room - n
+    → record v { slots = slots; first = first; frames = frames; frame_room = a; slot_room = b } ≡ pushed v back n
+is-pushed v back n first slots frames a b p q r s t = rw (p, q, r, s, t) refl
+
+pub is-pushed-of : (v : Stack) (back first : ℕ) (words slots : List Word) (frames : List Frame) (a b : ℕ) → slots ≡ v.slots ++ words
+    → first ≡ length v.slots → frames ≡ v.frames ++ record { back = back; below = v.first } ∷ [] → a ≡ v.frame_room - 1
+    → b ≡ v.slot_room - length words
+    → record v { slots = slots; first = first; frames = frames; frame_room = a; slot_room = b } ≡ pushed_of v back words
+is-pushed-of v back first words slots frames a b p q r s t = rw (p, q, r, s, t) refl
+
+pub is-ended : (v : Stack) (slots : List Word) (s room : ℕ) → slots ≡ take (v.first + s) v.slots ++ replicate (length v.slots - (v.first + s)) Nil
+    → room ≡ v.slot_room
+    → record v { slots = slots; slot_room = room } ≡ ended v s
+is-ended v slots s room p q = rw (p, q) refl
 
 pub is-popped : (v : Stack) (slots : List Word) (first : ℕ) (frames : List Frame) (a b : ℕ) (f : Frame) → slots ≡ take v.first v.slots
     → first ≡ f.below → frames ≡ take (length v.frames - 1) v.frames → a ≡ v.frame_room + 1
@@ -399,18 +398,6 @@ lies-begun v w e z m = record {
   };
   as_many = rw (m, e) refl;
 }
-
-pub unwritten-begun : (all : List Word) (n first : ℕ) (over : List Frame) (more : List ℕ) → all ≡ replicate n Nil
-    → over ≡ record { back = 0; below = 0 } ∷ [] → more ≡ 0 ∷ [] → first ≡ 0 → Unwritten all first over 0 more
-unwritten-begun all n first over more a o m e =
-    unwritten-pushed [] [] all n 0 0 [] over 0 0 first [] more a o m e refl unwritten-none
-
--- no frame, and nothing kept for one
-pub no-kept : (kept : List ℕ) (frames : List Frame) → frames ≡ [] → length kept ≡ length frames → kept ≡ []
-no-kept [] frames e h = refl
-no-kept (k ∷ ks) frames e h =
-    let n : length frames ≡ 0 = ap length e in
-    absurd (omega (arith, n, h))
 
 -- where the last mark isn't the number of temporaries, it is below it
 pub mark-below : (v : Stack) (t n x : ℕ) → t ≡ length v.temps → n ≡ length v.marks → x ≡ get_or v.marks (n - 1) x → (t ≡ x → ⊥)

@@ -11,14 +11,14 @@ ghost use Rattle.rg_base.specs.declared.value.Word.TheVariants.{Nil};
 ghost use Rattle.rg_frames.specs.declared.rows.Window.{Window as WindowOf};
 ghost use Rattle.rg_frames.specs.declared.rows.Frame.{Frame as FrameOf};
 ghost use Rattle.rg_frames.specs.declared.rows.FrameRefusal.TheVariants.{Depth};
-ghost use Rattle.rg_frames.specs.Inner.Layout.{NilFrom, IsPast, Unwritten};
+ghost use Rattle.rg_frames.specs.Inner.Layout.{NilFrom, IsPast, Unwritten, frames_of, lives_of};
 ghost use Rattle.rg_frames.specs.Stack.{Begun, InTop, IsTopFrame, IsTop, BaseUpTo, mark};
 ghost use Rattle.rg_frames.specs.Stack.{IsEmpty, HasRoom, roomed, begun, with_slot, with_temp};
 ghost use Rattle.rg_frames.specs.Stack.{without_temps, ended, BasesRise, MarksLie};
 ghost use Rattle.rg_frames.specs.Stack.{IsShown, with_shown};
 ghost use Rattle.rg_frames.specs.Stack.{pushed, pushed_of, popped, opened, closed, has_region};
 
-use crate::rows::{Frame, FrameRefusal, Window};
+use crate::rows::{Frame, FrameRefusal, Row, Window};
 use rg_base::{FRAMES, Memory, Place, Word};
 use std::alloc::Global;
 use std::marker::Model;
@@ -26,15 +26,15 @@ use std::marker::Model;
 /// Frames, windows and temporaries, each a stack.
 #[derive(Drop)]
 pub struct Frames {
-    // the slots of all frames, main's first
+    // the slots of all frames, main's first, and behind them nothing but nil
     slots: Vec<Word>,
+    // where the slots of the top frame end
+    top: usize,
     // the first slot of the top frame
     first: usize,
     // from this place on the slots of the top frame are nil
     live: usize,
-    frames: Vec<Frame>,
-    // what `live` was in front of each frame
-    kept: Vec<usize>,
+    rows: Vec<Row>,
     windows: Vec<Window>,
     // the temporaries of all windows, and where those of each begin
     temps: Vec<usize>,
@@ -44,15 +44,19 @@ pub struct Frames {
 
 impl Model for Frames {
     ghost use Rattle.rg_frames.specs.Stack.{Stack};
-    ghost use Rattle.rg_frames.specs.Inner.Layout.{Lies, Unwritten, stack_of};
+    ghost use Rattle.rg_frames.specs.Inner.Layout.{Lies, NilFrom, Unwritten, stack_of};
+    ghost use Rattle.rg_frames.specs.Inner.Layout.{frames_of, lives_of};
+    ghost use Rattle.std.specs.Prelude.{length, take};
 
     ghost Value = { Stack };
 
-    ghost view = { λ s. stack_of s.slots s.first s.frames s.kept s.windows s.temps s.marks s.next };
+    ghost view = { λ s. stack_of s.slots s.top s.first s.rows s.windows s.temps s.marks s.next };
 
     ghost invariant = { λ s. Lies
-        (stack_of s.slots s.first s.frames s.kept s.windows s.temps s.marks s.next)
-        × Unwritten s.slots.items s.first s.frames.items s.live s.kept.items };
+        (stack_of s.slots s.top s.first s.rows s.windows s.temps s.marks s.next)
+        × Unwritten (take s.top s.slots.items) s.first (frames_of s.rows.items) s.live
+        (lives_of s.rows.items)
+        × NilFrom s.slots.items s.top (length s.slots.items) };
 }
 
 impl Frames {
@@ -63,10 +67,10 @@ impl Frames {
     {
         Frames {
             slots: Vec::new(alloc),
+            top: 0,
             first: 0,
             live: 0,
-            frames: Vec::new(alloc),
-            kept: Vec::new(alloc),
+            rows: Vec::new(alloc),
             windows: Vec::new(alloc),
             temps: Vec::new(alloc),
             marks: Vec::new(alloc),
@@ -82,14 +86,8 @@ impl Frames {
         ensures err { OnErr result
             (self.new ≡ roomed self.old self.new.frame_room self.new.slot_room) }
     {
-        reserve_both(&mut self.frames, &mut self.kept)?;
+        self.reserve(slots as usize)?;
         reserve_both(&mut self.windows, &mut self.marks)?;
-        let Ok(()) = self.slots.resize(slots as usize, Word::Nil) else {
-            return Err(Memory);
-        };
-        self.frames.push_reserved(Frame { back: 0, below: 0 });
-        self.kept.push_reserved(0);
-        self.live = 0;
         self.windows.push_reserved(Window {
             number: 0,
             region,
@@ -98,6 +96,7 @@ impl Frames {
         });
         self.marks.push_reserved(0);
         self.next = 1;
+        self.push_frame(0, slots);
         Ok(())
     }
 
@@ -105,7 +104,7 @@ impl Frames {
     pub fn count(&self) -> usize
         ensures { result ≡ length self.now.frames }
     {
-        self.frames.len()
+        self.rows.len()
     }
 
     /// Makes room for one more frame of so many slots.
@@ -114,7 +113,7 @@ impl Frames {
         ensures same { self.new ≡ roomed self.old self.new.frame_room self.new.slot_room }
         ensures ok { OnOk result (HasRoom self.new slots) }
     {
-        if self.frames.len() >= FRAMES {
+        if self.rows.len() >= FRAMES {
             return Err(FrameRefusal::Depth);
         }
         let Ok(()) = self.reserve(slots as usize) else {
@@ -128,11 +127,10 @@ impl Frames {
         ensures same { self.new ≡ roomed self.old self.new.frame_room self.new.slot_room }
         ensures ok { OnOk result (HasRoom self.new slots) }
     {
-        reserve_both(&mut self.frames, &mut self.kept)?;
-        let Ok(()) = self.slots.reserve(slots) else {
+        let Ok(()) = self.rows.reserve(1) else {
             return Err(Memory);
         };
-        Ok(())
+        lengthen(&mut self.slots, self.top, slots)
     }
 
     /// Whether there is room for one more frame of so many slots.
@@ -140,9 +138,7 @@ impl Frames {
     pub fn has_room(&self, slots: usize) -> bool
         ensures { result ≡ true ↔ HasRoom self.now slots }
     {
-        self.frames.len() < self.frames.capacity()
-            && self.kept.len() < self.kept.capacity()
-            && slots <= self.slots.capacity() - self.slots.len()
+        self.rows.len() < self.rows.capacity() && slots <= self.slots.len() - self.top
     }
 
     /// A frame of these words and so many slots more, all nil, for which there is room.
@@ -150,15 +146,18 @@ impl Frames {
         requires { HasRoom self.old (length words.now + more) }
         ensures { self.new ≡ pushed_of self.old back (words.now ++ replicate more Nil) }
     {
-        let below = self.first;
-        let first = self.slots.len();
-        copy(&mut self.slots, words);
-        let live = self.slots.len();
-        fill(&mut self.slots, more);
-        self.kept.push_reserved(self.live);
+        let first = self.top;
+        copy(&mut self.slots, first, words);
+        self.rows.push_reserved(Row {
+            frame: Frame {
+                back,
+                below: self.first,
+            },
+            live: self.live,
+        });
         self.first = first;
-        self.live = live;
-        self.frames.push_reserved(Frame { back, below });
+        self.live = first + words.len();
+        self.top = first + words.len() + more;
     }
 
     /// A frame of so many slots, all nil, for which there is room.
@@ -166,13 +165,17 @@ impl Frames {
         requires { HasRoom self.old slots }
         ensures { self.new ≡ pushed self.old back slots }
     {
-        let below = self.first;
-        let first = self.slots.len();
-        fill(&mut self.slots, slots as usize);
-        self.kept.push_reserved(self.live);
+        let first = self.top;
+        self.rows.push_reserved(Row {
+            frame: Frame {
+                back,
+                below: self.first,
+            },
+            live: self.live,
+        });
         self.first = first;
         self.live = first;
-        self.frames.push_reserved(Frame { back, below });
+        self.top = first + slots as usize;
     }
 
     /// The top frame goes, over whose first slot no window has its base; answers where its return
@@ -183,18 +186,14 @@ impl Frames {
         ensures back { (f : FrameOf) → IsTopFrame self.old f → result ≡ f.back }
         ensures gone { (f : FrameOf) → IsTopFrame self.old f → self.new ≡ popped self.old f }
     {
-        let Some(live) = self.kept.pop() else {
+        let Some(row) = self.rows.pop() else {
             unreachable!();
         };
-        match self.frames.pop() {
-            Some(frame) => {
-                self.slots.truncate(self.first);
-                self.first = frame.below;
-                self.live = live;
-                frame.back
-            }
-            None => unreachable!(),
-        }
+        clear(&mut self.slots, self.first, self.live);
+        self.top = self.first;
+        self.first = row.frame.below;
+        self.live = row.live;
+        row.frame.back
     }
 
     /// Where the return of the top frame goes to; None where there is no frame.
@@ -204,8 +203,8 @@ impl Frames {
             × IsTopFrame self.now f × (f.back ≡ back)) }
         ensures none { IsNone result ↔ (length self.now.frames ≡ 0) }
     {
-        match self.frames.last() {
-            Some(frame) => Some(frame.back),
+        match self.rows.last() {
+            Some(row) => Some(row.frame.back),
             None => None,
         }
     }
@@ -241,13 +240,35 @@ impl Frames {
     pub fn word(&self, s: u32) -> Word
         ensures { result ≡ unwrap_or (slice_get self.now.slots (self.now.first + s)) Nil }
     {
-        let len = self.slots.len();
         let place = self.first + s as usize;
-        if place < len {
+        if place < self.top {
             self.slots[place]
         } else {
             Word::Nil
         }
+    }
+
+    /// Makes nil a slot of the top frame, whatever its number; answers what it held.
+    #[inline]
+    pub fn take_word(&mut self, k: usize) -> Word
+        requires { InTop self.old k }
+        ensures word { slice_get self.old.slots (self.old.first + k) ≡ Some result }
+        ensures nil { self.new ≡ with_slot self.old k Nil }
+    {
+        let place = self.first + k;
+        let w = self.slots[place];
+        self.slots[place] = Word::Nil;
+        w
+    }
+
+    /// From this slot of the top frame on all are nil now.
+    #[inline]
+    pub fn settle(&mut self, s: u32)
+        requires nil { ended self.old s ≡ self.old }
+        requires within { self.old.first + s ≤ length self.old.slots }
+        ensures { self.new ≡ self.old }
+    {
+        self.live = self.first + s as usize;
     }
 
     // Writes a place of the top frame, where it has one there.
@@ -256,8 +277,7 @@ impl Frames {
         requires { self.old.first ≤ place }
         ensures { self.new ≡ record self.old { slots = slice_set self.old.slots place w } }
     {
-        let len = self.slots.len();
-        if place < len {
+        if place < self.top {
             self.slots[place] = w;
             if self.live <= place {
                 self.live = place + 1;
@@ -317,7 +337,7 @@ impl Frames {
     pub fn size(&self) -> usize
         ensures { result ≡ length self.now.slots - self.now.first }
     {
-        self.slots.len().saturating_sub(self.first)
+        self.top.saturating_sub(self.first)
     }
 
     /// The place of the top frame's first slot among all slots.
@@ -342,7 +362,7 @@ impl Frames {
         requires { Begun self.now }
         ensures { (w : WindowOf) → IsTop self.now w → result.now ≡ drop w.base self.now.slots }
     {
-        &self.slots[self.windows[self.windows.len() - 1].base..]
+        &self.slots[self.windows[self.windows.len() - 1].base..self.top]
     }
 
     /// Writes the k-th of the words that `slots` shows.
@@ -354,8 +374,8 @@ impl Frames {
         let was = self.slots[place];
         self.slots[place] = w;
         if was == Word::Nil {
-            self.live = above(self.live, place, self.slots.len());
-            raise(&mut self.kept, &self.frames, self.first, place);
+            self.live = above(self.live, place, self.top);
+            raise(&mut self.rows, self.first, place);
         }
     }
 
@@ -514,15 +534,22 @@ fn reserve_both<A, B>(a: &mut Vec<A>, b: &mut Vec<B>) -> Result<(), Memory>
     Ok(())
 }
 
-// Words more, within the room.
-fn copy(all: &mut Vec<Word>, words: &[Word])
-    requires { vec_len all.old + length words.now ≤ vec_capacity all.old }
-    ensures items { all.new.items ≡ all.old.items ++ words.now }
-    ensures capacity { vec_capacity all.new ≡ vec_capacity all.old }
+// Makes room for so many slots behind a place, all nil.
+fn lengthen(all: &mut Vec<Word>, top: usize, slots: usize) -> Result<(), Memory>
+    requires { top ≤ length all.old.items }
+    ensures nil { all.new.items
+        ≡ all.old.items ++ replicate (length all.new.items - length all.old.items) Nil }
+    ensures room { OnOk result (top + slots ≤ length all.new.items) }
 {
-    for word in words {
-        all.push_reserved(*word);
+    if slots <= all.len() - top {
+        return Ok(());
     }
+    let Ok(()) = all.reserve(slots) else {
+        return Err(Memory);
+    };
+    let more = all.capacity() - all.len();
+    fill(all, more);
+    Ok(())
 }
 
 // So many slots more, all nil, within the room.
@@ -538,10 +565,24 @@ fn fill(all: &mut Vec<Word>, more: usize)
     }
 }
 
+// Writes words over those from a place on.
+#[inline]
+fn copy(all: &mut Vec<Word>, at: usize, words: &[Word])
+    requires { at + length words.now ≤ length all.old.items }
+    ensures items { all.new.items
+        ≡ take at all.old.items ++ (words.now ++ drop (at + length words.now) all.old.items) }
+    ensures capacity { vec_capacity all.new ≡ vec_capacity all.old }
+{
+    let mut k = 0;
+    'copy: while k < words.len() {
+        all[at + k] = words[k];
+        k += 1;
+    }
+}
+
 // Makes nil the slots from one place up to another, from which on they are nil.
 fn clear(all: &mut Vec<Word>, from: usize, to: usize)
-    requires order { from ≤ to }
-    requires nil { NilFrom all.old.items to (length all.old.items) }
+    requires { NilFrom all.old.items to (length all.old.items) }
     ensures items { all.new.items
         ≡ take from all.old.items ++ replicate (length all.old.items - from) Nil }
     ensures capacity { vec_capacity all.new ≡ vec_capacity all.old }
@@ -567,19 +608,24 @@ fn above(from: usize, place: usize, to: usize) -> usize
 }
 
 // What is kept for the frame of a place rises above it, so the place may be written.
-fn raise(kept: &mut Vec<usize>, frames: &[Frame], first: usize, place: usize)
-    requires { length kept.old.items ≡ length frames.now }
+fn raise(rows: &mut Vec<Row>, first: usize, place: usize)
     ensures nil { (slots : List WordOf) (live : ℕ) (w : WordOf) → IsPast place live (length slots)
-        → Unwritten slots first frames.now live kept.old.items
-        → Unwritten (slice_set slots place w) first frames.now live kept.new.items }
-    ensures len { length kept.new.items ≡ length kept.old.items }
-    ensures capacity { vec_capacity kept.new ≡ vec_capacity kept.old }
+        → Unwritten slots first (frames_of rows.old.items) live (lives_of rows.old.items)
+        → Unwritten (slice_set slots place w) first (frames_of rows.new.items) live
+        (lives_of rows.new.items) }
+    ensures frames { frames_of rows.new.items ≡ frames_of rows.old.items }
+    ensures len { length rows.new.items ≡ length rows.old.items }
+    ensures capacity { vec_capacity rows.new ≡ vec_capacity rows.old }
 {
     let mut end = first;
-    let mut k = frames.len();
+    let mut k = rows.len();
     'raise: while k > 0 {
         k -= 1;
-        kept[k] = above(kept[k], place, end);
-        end = frames[k].below;
+        let row = rows[k];
+        rows[k] = Row {
+            frame: row.frame,
+            live: above(row.live, place, end),
+        };
+        end = row.frame.below;
     }
 }

@@ -18,6 +18,13 @@ pub struct Frame {
     pub below: usize,
 }
 
+/// A frame, and the place from which on the slots of the frame beneath are nil.
+#[derive(Clone, Copy)]
+pub(crate) struct Row {
+    pub frame: Frame,
+    pub live: usize,
+}
+
 /// Why there is no room for a frame.
 #[derive(Clone, Copy)]
 pub enum FrameRefusal {

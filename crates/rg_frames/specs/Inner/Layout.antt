@@ -1,9 +1,10 @@
 -- How the windows lie over slots and temporaries, and what the fields of `Frames` show (docs/architecture.md, "Frames").
-use Rattle.std.specs.Prelude.{◌≡◌, ℕ, suc, ◌≤◌, ◌<◌, ◌-◌, ◌⊎◌, List, Some, None, length, min, slice_get, vec_capacity}
+use Rattle.std.specs.Prelude.{◌≡◌, ℕ, suc, ◌≤◌, ◌<◌, ◌-◌, ◌⊎◌, List, Some, None, length, map, take, slice_get, vec_capacity}
 use Rattle.std.specs.declared.vec.Vec.{Vec}
 use Rattle.rg_base.specs.declared.value.Word.{Word}
 use Rattle.rg_base.specs.declared.value.Word.TheVariants.{Nil}
 use Rattle.rg_frames.specs.declared.rows.Frame.{Frame}
+use Rattle.rg_frames.specs.declared.rows.Row.{Row}
 use Rattle.rg_frames.specs.declared.rows.Window.{Window}
 use Rattle.rg_frames.specs.Stack.{BasesRise, Stack}
 
@@ -42,16 +43,23 @@ pub record Unwritten (slots : List Word) (first : ℕ) (frames : List Frame) (li
   pub within : first ≤ length slots
   pub as_many : length kept ≡ length frames
 
--- what the fields show
-abbrev pub stack_of : {Z : Type 0} → (slots : Vec Word Z) → (first : ℕ) → Vec Frame Z → Vec ℕ Z → Vec Window Z → (temps marks : Vec ℕ Z) → ℕ → Stack
-stack_of slots first frames kept windows temps marks next = record {
-  slots = slots.items;
+-- the frames that are kept, and what is kept for the frame beneath each
+abbrev pub frames_of : List Row → List Frame
+frames_of rows = map (λ (r : Row). r.frame) rows
+
+abbrev pub lives_of : List Row → List ℕ
+lives_of rows = map (λ (r : Row). r.live) rows
+
+-- what the fields show: the slots end where the top frame does
+abbrev pub stack_of : {Z : Type 0} → (slots : Vec Word Z) → (top first : ℕ) → Vec Row Z → Vec Window Z → (temps marks : Vec ℕ Z) → ℕ → Stack
+stack_of slots top first rows windows temps marks next = record {
+  slots = take top slots.items;
   first = first;
-  frames = frames.items;
+  frames = frames_of rows.items;
   windows = windows.items;
   temps = temps.items;
   marks = marks.items;
   next = next;
-  frame_room = min (vec_capacity frames - length frames.items) (vec_capacity kept - length kept.items);
-  slot_room = vec_capacity slots - length slots.items;
+  frame_room = vec_capacity rows - length rows.items;
+  slot_room = length slots.items - top;
 }

@@ -1,6 +1,9 @@
-use Rattle.std.proofs.Common.{◌≡◌, ◌≤◌, ◌+◌, ◌-◌, ◌++◌, drop, length, vec_len, vec_capacity}
+use Rattle.std.proofs.Common.{◌≡◌, ◌≤◌, ◌+◌, ◌-◌, ◌++◌, drop, take, length, vec_capacity}
 use Rattle.rg_frames.proofs.frames.copy.Given as goal
 
-abbrev pub invariant-loop-word : goal.invariant-loop-word
-invariant-loop-word l = (l.all.items ++ drop l.word-index l.words ≡ l.fn.all.items ++ l.words)
-    × (vec_capacity l.all ≡ vec_capacity l.fn.all) × (vec_len l.all + (length l.words - l.word-index) ≤ vec_capacity l.all)
+abbrev pub invariant-copy : goal.invariant-copy
+invariant-copy l = (l.k ≤ length l.words) × (l.all.items ≡ take l.at l.fn.all.items ++ (take l.k l.words ++ drop (l.at + l.k) l.fn.all.items))
+    × (vec_capacity l.all ≡ vec_capacity l.fn.all)
+
+abbrev pub decreases-copy : goal.decreases-copy
+decreases-copy l = length l.words - l.k

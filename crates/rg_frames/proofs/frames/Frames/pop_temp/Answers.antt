@@ -6,17 +6,17 @@ use Rattle.rg_frames.proofs.frames.Frames.pop_temp.Goals as goal
 
 pub invariant_of-self : goal.invariant_of-self
 invariant_of-self c =
-    let v : Stack = stack_of c.self.inside.slots c.self.inside.first c.self.inside.frames c.self.inside.kept c.self.inside.windows
+    let v : Stack = stack_of c.self.inside.slots c.self.inside.top c.self.inside.first c.self.inside.rows c.self.inside.windows
     c.self.inside.temps c.self.inside.marks c.self.inside.next in
     let begun = subst Begun (sym c.self.view_is) c.requires in
     let some : 0 < length c.self.inside.marks.items = omega (arith, begun.1, c.self.invariant.0.as_many) in
     let below = mark-below v _ _ _ (grind arith) (grind arith) c.index.ensures c.if-len-index.false some c.self.invariant.0 in
-    (lies-temps v _ some (mark-left v _ _ c.pop.ensures.items below) c.self.invariant.0, c.self.invariant.1)
+    (lies-temps v _ some (mark-left v _ _ c.pop.ensures.items below) c.self.invariant.0, c.self.invariant.1, c.self.invariant.2)
 
 pub returns-clause-none : goal.returns-clause-none
 returns-clause-none c =
     let Q : Stack → Type 0 = λ v. IsNone c.pop.result ↔ (length v.temps ≡ mark v) in
-    let v : Stack = stack_of c.self.inside.slots c.self.inside.first c.self.inside.frames c.self.inside.kept c.self.inside.windows
+    let v : Stack = stack_of c.self.inside.slots c.self.inside.top c.self.inside.first c.self.inside.rows c.self.inside.windows
     c.self.inside.temps c.self.inside.marks c.self.inside.next in
     let begun = subst Begun (sym c.self.view_is) c.requires in
     let some : 0 < length c.self.inside.marks.items = omega (arith, begun.1, c.self.invariant.0.as_many) in
