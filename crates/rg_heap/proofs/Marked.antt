@@ -21,7 +21,7 @@ use Rattle.rg_frames.specs.declared.rows.Window.{Window}
 use Rattle.rg_frames.specs.Stack.{Stack, IsTop}
 use Rattle.rg_heap.specs.Writes.{Stays, Comes, LeadsOut, InActive, IsTemp, IsCounting, counted}
 use Rattle.rg_heap.proofs.Readers.{one_top}
-use Rattle.rg_heap.specs.Inner.Marks.{MayWrite, Recounts, leads_once}
+use Rattle.rg_heap.specs.Inner.Marks.{LeadsNowhere, MayWrite, Recounts, leads_once}
 use Rattle.rg_heap.proofs.Written.{grove_written}
 use Rattle.rg_heap.proofs.Left.{temp_apart}
 
@@ -97,6 +97,23 @@ pub recounts_none : (c : Table) (t : RegionTable) (slot k : ℕ) (w : Word) → 
 recounts_none c t slot k w n = record {
   heap = refl;
   recounted = λ r s old f l i m. absurd (n r l i);
+  uncounted = λ s m. refl;
+}
+
+-- nor where neither the old word nor the new one leads to an object
+nowhere : (w : Word) → LeadsNowhere w → (s : ℕ) → leads_once s w ≡ 0
+nowhere Nil n s = refl
+nowhere (Int z) n s = refl
+nowhere (Truth b) n s = refl
+nowhere (Slot t) n s = absurd (n t refl)
+
+pub recounts_nowhere : (c : Table) (t : RegionTable) (slot k : ℕ) (old w : Word) → field_at c.heap slot k ≡ Some old → LeadsNowhere old
+    → LeadsNowhere w → Recounts c t c slot k w
+recounts_nowhere c t slot k old w f a b = record {
+  heap = refl;
+  recounted = λ r s old2 f2 l i m.
+      ap (λ n. mark_at c s + n)
+      (ap (leads_once s) (same_Some old2 old (sym f2 ∙ f)) ∙ nowhere old a s ∙ sym (nowhere w b s));
   uncounted = λ s m. refl;
 }
 

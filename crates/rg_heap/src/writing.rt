@@ -1,12 +1,12 @@
 //! Fields that are written (docs/architecture.md, "The heap").
 
-ghost use Rattle.std.specs.Prelude.{◌≡◌, ◌<◌, ◌+◌, ◌-◌, ◌^◌, ℕ, None, IfSome};
+ghost use Rattle.std.specs.Prelude.{◌≡◌, ◌<◌, ◌+◌, ◌-◌, ◌^◌, ℕ, None, IfSome, true};
 ghost use Rattle.rg_cells.specs.Table.{IsHeld, body_at, mark_at, width, with_field};
 ghost use Rattle.rg_regions.specs.Table.{IsKey};
 ghost use Rattle.rg_regions.specs.Reach.{LiesIn};
 ghost use Rattle.rg_regions.specs.Grove.{Grove};
 ghost use Rattle.rg_heap.specs.Writes.{counted};
-ghost use Rattle.rg_heap.specs.Inner.Marks.{Counts, MayWrite, Recounts};
+ghost use Rattle.rg_heap.specs.Inner.Marks.{Counts, LeadsNowhere, MayWrite, Recounts};
 
 use rg_base::{Label, Manager, Word};
 use rg_cells::Cells;
@@ -91,7 +91,19 @@ fn write_counted(cells: &mut Cells, regions: &Regions, key: usize, slot: usize, 
     cells.set_field(slot, k, w);
 }
 
-/// Writes a field of a cell of the region of a key, or of a temporary.
+// Whether a word leads to no object.
+#[inline]
+fn leads_nowhere(w: Word) -> bool
+    ensures { result ≡ true → LeadsNowhere w }
+{
+    match w {
+        Word::Nil | Word::Int(_) | Word::Bool(_) => true,
+        Word::Slot(_) => false,
+    }
+}
+
+/// Writes a field of a cell of the region of a key, or of a temporary. Whether the region counts
+/// isn't asked where neither what stood there nor what is written leads to an object.
 pub fn write_field(cells: &mut Cells, regions: &Regions, key: usize, slot: usize, k: u32, w: Word)
     requires grove { Grove cells.old regions.now }
     requires key { IsKey regions.now key }
@@ -100,6 +112,12 @@ pub fn write_field(cells: &mut Cells, regions: &Regions, key: usize, slot: usize
     ensures heap { cells.new.heap ≡ with_field cells.old.heap slot k w }
     ensures grove { Grove cells.new regions.now }
 {
+    if leads_nowhere(w) {
+        if leads_nowhere(cells.field(slot, k)) {
+            cells.set_field(slot, k, w);
+            return;
+        }
+    }
     let Manager::Count = regions.manager(key) else {
         cells.set_field(slot, k, w);
         return;

@@ -1,6 +1,7 @@
 -- How marks follow a field that is about to be written (docs/architecture.md, "The heap").
 use Rattle.std.specs.Prelude.{◌≡◌, ℕ, ◌+◌, ◌⊎◌, cond, Some, option_map}
 use Rattle.rg_base.specs.declared.value.Word.{Word}
+use Rattle.rg_base.specs.declared.value.Word.TheVariants.{Slot}
 use Rattle.rg_cells.specs.Table.{Heap, Table, field_at, mark_at}
 use Rattle.rg_base.specs.declared.words.Manager.TheVariants.{Count}
 use Rattle.rg_regions.specs.Table.{Record, RegionTable, HasNumber, record_at}
@@ -19,6 +20,10 @@ Counts t key = option_map (λ (r : Record). r.manager) (record_at t key) ≡ Som
 -- one where a word leads to a slot
 abbrev pub leads_once : ℕ → Word → ℕ
 leads_once s w = cond (leads_to s w) 1 0
+
+-- a word leads to no object
+abbrev pub LeadsNowhere : Word → Type 0
+LeadsNowhere w = (s : ℕ) → w ≡ Slot s → ⊥
 
 -- the marks are those behind the write; bodies are as they were
 pub record Recounts (c : Table) (t : RegionTable) (cells : Table) (slot k : ℕ) (w : Word) : Type 0 where
