@@ -82,7 +82,7 @@ module _ (g : Given) (types : List Ty) (s : ℕ) (ks : List ℕ) (o : Option (Li
 
 -- A new array
 
-module _ (m : Truth) (t u : Tables) (c name size : ℕ) (e : Raised) (a : Adds name_at IsNameIn t u name (class_name c))
+module _ (m : Truth) {t u : Tables} (c : ℕ) {name size : ℕ} (e : Raised) (a : Adds name_at IsNameIn t u name (class_name c))
     (is : IsTree t size (named m e)) where
   pub array-new : MakesOne (IsRightSaid m) t u (array_of (walk.New c) e) (Ok (record { row = right_row.New name (Some size); paces = true }))
   array-new =

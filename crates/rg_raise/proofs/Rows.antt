@@ -76,6 +76,12 @@ module _ {W B : Type 0} {at : Tables → W → B} {exists : Tables → W → Typ
     there = λ w k. h w v1 v2 v3 (a.there w k) (b.there w k) (c.there w k);
   }
 
+-- what was added over one that was added
+pub adds-one : {W B V A : Type 0} {at : Tables → W → B} {exists : Tables → W → Type 0} {at1 : Tables → V → A} {exists1 : Tables → V → Type 0}
+    (row : V → W) (f : A → B) → ((u : Tables) (v : V) → at u (row v) ≡ f (at1 u v)) → ((u : Tables) (v : V) → exists1 u v → exists u (row v))
+    → {t u : Tables} {v : V} {a : A} → Adds at1 exists1 t u v a → Adds at exists t u (row v) (f a)
+adds-one row f e h a = record { extends = a.extends; means = means-one row f e h a.means }
+
 -- a span of rows
 pub means-span : {A : Type 0} (at : Tables → ℕ → A) (size : Tables → ℕ) {t : Tables} {ns : List ℕ} {s : Span} {xs : List A}
     → Means (λ u. map (at u)) (λ u. All (λ k. k < size u)) t ns xs → Holds t s ns

@@ -1,49 +1,30 @@
-use Rattle.std.proofs.Common.{sym, subst}
 use Rattle.std.proofs.lemmas.Result.{err_from_is_err_and}
-use Rattle.rg_verify.specs.declared.signs.Walk.{Walk}
 use Rattle.rg_verify.specs.Naming.{class_name}
-use Rattle.rg_raise.specs.Telling.{array_of, MakesOne, IsRightSaid}
+use Rattle.rg_raise.specs.Telling.{array_of}
 use Rattle.rg_raise.proofs.RightSides.{array-new, array-tmp, array-iso, array-unnamed}
 use Rattle.rg_raise.proofs.rights.array_row.Goals as goal
 
-pub returns-in-New : goal.returns-in-New
-returns-in-New c e tree =
-    let t = c.args.program.now in
-    let u = c.class_row-in-New.new.program in
-    let m = c.args.body.in_method in
-    let name = c.in_ok-name-in-New.name in
-    subst (λ (w : Walk). MakesOne (IsRightSaid m) t u (array_of w e) _) (sym c.in-New.is)
-    (array-new m t u c.in-New.class name c.args.size e c.in_ok-name-in-New.ensures tree)
+pub returns-in_ok-name-in-New : goal.returns-in_ok-name-in-New
+returns-in_ok-name-in-New c e tree = rw c.in-New.is (array-new c.args.body.in_method c.in-New.class e c.in_ok-name-in-New.ensures tree)
 
-pub returns-in_err-name : goal.returns-in_err-name
-returns-in_err-name c e tree =
+pub returns-in_ok-name-in-NewTmp : goal.returns-in_ok-name-in-NewTmp
+returns-in_ok-name-in-NewTmp c e tree = rw c.in-NewTmp.is (array-tmp c.args.body.in_method c.in-NewTmp.class e c.in_ok-name-in-NewTmp.ensures tree)
+
+pub returns-in_ok-name-in-NewIso : goal.returns-in_ok-name-in-NewIso
+returns-in_ok-name-in-NewIso c e tree =
+    rw c.in-NewIso.is (array-iso c.args.body.in_method c.in-NewIso.class e c.in_ok-name-in-NewIso.ensures tree c.in-NewIso.manager)
+
+pub returns-in_err-name-in-New : goal.returns-in_err-name-in-New
+returns-in_err-name-in-New c e tree =
     let p = err_from_is_err_and c.from_residual-in_err-name-in-New.result c.from_residual-in_err-name-in-New.ensures.1 in
-    rw (p.1, p.2) (array-unnamed c.args.program.now c.class_row-in-New.new.program c.args.body.in_method (class_name c.in-New.class)
+    rw (p.1, p.2) (array-unnamed c.args.program.now c.class_row.new.program c.args.body.in_method (class_name c.in-New.class)
     (array_of c.args.walk e) c.in_err-name-in-New.field-0.0 c.in_err-name-in-New.ensures)
-
-pub returns-in-NewTmp : goal.returns-in-NewTmp
-returns-in-NewTmp c e tree =
-    let t = c.args.program.now in
-    let u = c.class_row-in-NewTmp.new.program in
-    let m = c.args.body.in_method in
-    let name = c.in_ok-name-in-NewTmp.name in
-    subst (λ (w : Walk). MakesOne (IsRightSaid m) t u (array_of w e) _) (sym c.in-NewTmp.is)
-    (array-tmp m t u c.in-NewTmp.class name c.args.size e c.in_ok-name-in-NewTmp.ensures tree)
 
 pub returns-in_err-name-in-NewTmp : goal.returns-in_err-name-in-NewTmp
 returns-in_err-name-in-NewTmp c e tree =
     let p = err_from_is_err_and c.from_residual-in_err-name-in-NewTmp.result c.from_residual-in_err-name-in-NewTmp.ensures.1 in
     rw (p.1, p.2) (array-unnamed c.args.program.now c.class_row-in-NewTmp.new.program c.args.body.in_method (class_name c.in-NewTmp.class)
     (array_of c.args.walk e) c.in_err-name-in-NewTmp.field-0.0 c.in_err-name-in-NewTmp.ensures)
-
-pub returns-in-NewIso : goal.returns-in-NewIso
-returns-in-NewIso c e tree =
-    let t = c.args.program.now in
-    let u = c.class_row-in-NewIso.new.program in
-    let m = c.args.body.in_method in
-    let name = c.in_ok-name-in-NewIso.name in
-    subst (λ (w : Walk). MakesOne (IsRightSaid m) t u (array_of w e) _) (sym c.in-NewIso.is)
-    (array-iso m t u c.in-NewIso.class name c.args.size e c.in_ok-name-in-NewIso.ensures tree c.in-NewIso.manager)
 
 pub returns-in_err-name-in-NewIso : goal.returns-in_err-name-in-NewIso
 returns-in_err-name-in-NewIso c e tree =
