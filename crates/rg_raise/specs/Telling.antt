@@ -17,7 +17,8 @@ use Rattle.rg_verify.specs.declared.signs.Walk.{Walk}
 use Rattle.rg_verify.specs.declared.signs.Walk.TheVariants as walk
 use Rattle.rg_verify.specs.Raised.{Raised, path_named}
 use Rattle.rg_verify.specs.Rows.{IsPath}
-use Rattle.rg_verify.specs.Statements.{Call, Right, new, new_tmp, new_iso, Kind, declare, assign, write, write_element, call, swap, branch, while}
+use Rattle.rg_verify.specs.Statements as statements
+use Rattle.rg_verify.specs.Statements.{Call, Right, Kind, declare, assign, write, write_element, call, swap, branch, while}
 use Rattle.rg_verify.specs.Statements.{enter, enter_field, print, collect, return, Block}
 use Rattle.rg_verify.specs.Found.{call_named, right_named, kind_named, block_named}
 use Rattle.rg_verify.specs.Signs.{behind_of}
@@ -40,9 +41,9 @@ roomed ops at = do
 
 -- a new array, by what stands behind the number of its elements
 abbrev pub array_of : Walk → Raised → Option Right
-array_of (walk.New c) e = Some (new c (Some e))
-array_of (walk.NewTmp c) e = Some (new_tmp c (Some e))
-array_of (walk.NewIso c manager) e = Some (new_iso c (Some e) manager)
+array_of (walk.New c) e = Some (statements.new c (Some e))
+array_of (walk.NewTmp c) e = Some (statements.new_tmp c (Some e))
+array_of (walk.NewIso c manager) e = Some (statements.new_iso c (Some e) manager)
 array_of (walk.Enter k z) e = None
 
 -- a path, with its names
