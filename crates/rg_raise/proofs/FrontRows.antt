@@ -3,7 +3,7 @@ use Rattle.std.proofs.Common.{◌≡◌, ℕ, zero, suc, ◌+◌, ◌-◌, ◌<�
 use Rattle.std.proofs.Common.{Ok, Err, Vec, Global, refl, sym, ap, ◌∙◌, subst, append_assoc, arith}
 use Rattle.std.specs.List.{remove}
 use Rattle.std.proofs.Math.Seq.{drop-cons}
-use Rattle.std.proofs.lemmas.List.{drop_all, length-map}
+use Rattle.std.proofs.lemmas.List.{append-nil, drop_all, length-map}
 use Rattle.std.proofs.lemmas.List.Elements.{All-nil, All-cons, All-head, All-tail}
 use Rattle.rg_base.specs.declared.ty.Ty.{Ty}
 use Rattle.rg_tree.specs.declared.rows.Path as rows
@@ -74,7 +74,7 @@ fronts-raised t u m ops from rows end (fs, stand, extends, are) =
 
 -- One after the other
 
-module _ {t : Tables} {m : Truth} where
+module _ (t : Tables) (m : Truth) where
   pub rows-many : (rs : List FrontRow) (fs : List Front) → AreFrontRows t m rs fs → length rs ≡ length fs
   rows-many rs fs a =
       let same : map (front_at t) rs ≡ map (front_named m) fs = a.is t (Keeps-same t) in
@@ -216,9 +216,9 @@ pub alone-on : (rs : List FrontRow) (at : ℕ) (done : List ℕ) (n : ℕ) → d
     → rows_alone done (drop at rs) ≡ rows_alone [] rs → rows_alone (done ++ n ∷ []) (drop (at + 1) rs) ≡ rows_alone [] rs
 alone-on rs at done n next same = sym (ap (rows_alone done) next) ∙ same
 
-trees-cons : {t : Tables} {m : Truth} (n : ℕ) (ns : List ℕ) (e : Raised) (es : List Raised) → IsTree t n (named m e)
+trees-cons : {t : Tables} (m : Truth) (n : ℕ) (ns : List ℕ) (e : Raised) (es : List Raised) → IsTree t n (named m e)
     → AreTrees t ns (map (named m) es) → AreTrees t (n ∷ ns) (map (named m) (e ∷ es))
-trees-cons n ns e es a b = record {
+trees-cons m n ns e es a b = record {
   is = λ u k. let p = a.is u k in let q = b.is u k in cc;
   there = λ u k. All-cons (IsExprNumber u) n ns (a.there u k) (b.there u k);
 }
@@ -241,38 +241,38 @@ alone-some t m [] [] done ns a e =
       rs = [];
       told = refl;
       rest = [];
-      all = let p : done ≡ ns = cc in rw p refl;
+      all = let p : done ≡ ns = cc in sym p ∙ sym (append-nil done);
       trees = record { is = λ u k. refl; there = λ u k. All-nil (IsExprNumber u) };
     }
-alone-some t m [] (f ∷ fs) done ns a e = let many : 0 ≡ suc (length fs) = rows-many [] (f ∷ fs) a in absurd (omega (arith, many))
-alone-some t m (r ∷ rs) [] done ns a e = let many : suc (length rs) ≡ 0 = rows-many (r ∷ rs) [] a in absurd (omega (arith, many))
+alone-some t m [] (f ∷ fs) done ns a e = let many : 0 ≡ suc (length fs) = rows-many t m [] (f ∷ fs) a in absurd (omega (arith, many))
+alone-some t m (r ∷ rs) [] done ns a e = let many : suc (length rs) ≡ 0 = rows-many t m (r ∷ rs) [] a in absurd (omega (arith, many))
 alone-some t m (front.Object p ∷ rs) (f ∷ fs) done ns a e = absurd cc
 alone-some t m (front.Place p n ∷ rs) (f ∷ fs) done ns a e = absurd cc
 alone-some t m (front.Expression n ∷ rs) (f ∷ fs) done ns a e =
-    let (x, same, tree) = is-expression n f (rows-head (front.Expression n) rs f fs a) in
-    let v = alone-some t m rs fs (done ++ n ∷ []) ns (rows-tail (front.Expression n) rs f fs a) e in
+    let (x, same, tree) = is-expression t m n f (rows-head t m (front.Expression n) rs f fs a) in
+    let v = alone-some t m rs fs (done ++ n ∷ []) ns (rows-tail t m (front.Expression n) rs f fs a) e in
     record {
       rs = x ∷ v.rs;
       told = ap (λ (g : Front). values_in (g ∷ fs)) same ∙ values-one x fs (Some v.rs) v.told;
       rest = n ∷ v.rest;
       all = v.all ∙ append_assoc done (n ∷ []) v.rest;
-      trees = trees-cons n v.rest x v.rs tree v.trees;
+      trees = trees-cons m n v.rest x v.rs tree v.trees;
     }
 
 alone-none : (t : Tables) (m : Truth) (rows : List FrontRow) (fs : List Front) (done : List ℕ) → AreFrontRows t m rows fs
     → rows_alone done rows ≡ None → values_in fs ≡ None
 alone-none t m [] [] done a e = absurd cc
-alone-none t m [] (f ∷ fs) done a e = let many : 0 ≡ suc (length fs) = rows-many [] (f ∷ fs) a in absurd (omega (arith, many))
-alone-none t m (r ∷ rs) [] done a e = let many : suc (length rs) ≡ 0 = rows-many (r ∷ rs) [] a in absurd (omega (arith, many))
+alone-none t m [] (f ∷ fs) done a e = let many : 0 ≡ suc (length fs) = rows-many t m [] (f ∷ fs) a in absurd (omega (arith, many))
+alone-none t m (r ∷ rs) [] done a e = let many : suc (length rs) ≡ 0 = rows-many t m (r ∷ rs) [] a in absurd (omega (arith, many))
 alone-none t m (front.Expression n ∷ rs) (f ∷ fs) done a e =
-    let (x, same, tree) = is-expression n f (rows-head (front.Expression n) rs f fs a) in
-    let none = alone-none t m rs fs (done ++ n ∷ []) (rows-tail (front.Expression n) rs f fs a) e in
+    let (x, same, tree) = is-expression t m n f (rows-head t m (front.Expression n) rs f fs a) in
+    let none = alone-none t m rs fs (done ++ n ∷ []) (rows-tail t m (front.Expression n) rs f fs a) e in
     ap (λ (g : Front). values_in (g ∷ fs)) same ∙ values-one x fs None none
 alone-none t m (front.Object p ∷ rs) (f ∷ fs) done a e =
-    let (s, ks, same, path) = is-object p f (rows-head (front.Object p) rs f fs a) in
+    let (s, ks, same, path) = is-object t m p f (rows-head t m (front.Object p) rs f fs a) in
     ap (λ (g : Front). values_in (g ∷ fs)) same
 alone-none t m (front.Place p n ∷ rs) (f ∷ fs) done a e =
-    let (s, ks, x, same, both) = is-place p n f (rows-head (front.Place p n) rs f fs a) in
+    let (s, ks, x, same, path, tree) = is-place t m p n f (rows-head t m (front.Place p n) rs f fs a) in
     ap (λ (g : Front). values_in (g ∷ fs)) same
 
 -- what expressions alone use up

@@ -7,4 +7,3 @@ mod Telling
 mod RightSides
 mod KindParts
 mod Objects
-mod Going

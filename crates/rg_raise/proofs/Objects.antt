@@ -78,12 +78,12 @@ module _ (g : Given) (types : List Ty) (s : ℕ) (ks : List ℕ) (fs : List Fron
 
 -- A field and a variable change places
 
-module _ {t : Tables} {m : Truth} (rs : List FrontRow) (s : ℕ) (ks : List ℕ) (fs : List Front) (y k at : ℕ) (a : AreFrontRows t m rs fs) where
+module _ (t : Tables) (m : Truth) (rs : List FrontRow) (s : ℕ) (ks : List ℕ) (fs : List Front) (y k at : ℕ) (a : AreFrontRows t m rs fs) where
   pub swap-many : (length rs ≡ 0 → ⊥) → swap_by s ks fs y k at ≡ None
   swap-many some = by fs a
     where
       by : (xs : List Front) → AreFrontRows t m rs xs → swap_by s ks xs y k at ≡ None
-      by [] b = absurd (some (rows-many rs [] b))
+      by [] b = absurd (some (rows-many t m rs [] b))
       by (x ∷ xs) b = refl
 
   pub swap-made : (u v : Tables) (n name : ℕ) (to : rows.Path) → length rs ≡ 0 → Adds name_at IsNameIn t u name (variable_name y)
@@ -103,5 +103,5 @@ module _ {t : Tables} {m : Truth} (rs : List FrontRow) (s : ℕ) (ks : List ℕ)
           makes-so (IsKindSaid m n) t v (swap_by s ks [] y k at) _ (swap y s ks k) (at + 1) (suc at) refl one
           (extends-trans named.extends path.extends) (means, refl)
       by (x ∷ xs) b =
-          let many : 0 ≡ suc (length xs) = sym none ∙ rows-many rs (x ∷ xs) b in
+          let many : 0 ≡ suc (length xs) = sym none ∙ rows-many t m rs (x ∷ xs) b in
           absurd (omega (arith, many))

@@ -19,14 +19,14 @@ use Rattle.rg_tree.specs.Keeps.{Keeps}
 use Rattle.rg_tree.proofs.Callers.{Keeps-same, Keeps-trans, Holds-keeps, IsAbove-Keeps, expr_at-keeps, stmt_at-keeps}
 use Rattle.rg_tree.proofs.Grows.{numbers_in-grows, path_of-grows, IsPathIn-grows}
 use Rattle.rg_verify.specs.Naming.{field_name, method_name}
-use Rattle.rg_verify.specs.Raised.{Raised, number, boolean, nil, path, is_nil, size, element, neg, not, binary, named, path_named}
+use Rattle.rg_verify.specs.Raised.{named, path_named}
 use Rattle.rg_tree.specs.Adds.{Extends, Means, Adds}
 use Rattle.rg_raise.specs.Fronts.{AreTrees}
 use Rattle.rg_verify.specs.Statements.{Call}
 use Rattle.rg_verify.specs.Found.{call_named}
 use Rattle.rg_verify.specs.Blocks.{path_in}
 use Rattle.rg_verify.specs.Rows.{AreNames, IsTree}
-use Rattle.rg_raise.specs.Telling.{IsPathTo, FindsPath, AreStmts, block_with, AddsBlock}
+use Rattle.rg_raise.specs.Telling.{IsPathTo}
 use Rattle.rg_tree.specs.Rows.RowsExist.{IsStmtNumber}
 use Rattle.rg_tree.proofs.Adding.{extends-by, extends-trans, means-later}
 
@@ -92,37 +92,6 @@ means-span at size {ns = ns} {s = s} a h = record {
       record { within = i.within; each = subst (All (λ k. k < size w)) (sym i.these_are) (a.there w k) };
 }
 
--- a statement that was put last
-pub stmt-put : {u v : Tables} (n : ℕ) → Keeps u v → program_of v ≡ program_of u → (r : StmtRow) {a : Stmt} → n ≡ length u.stmts
-    → stmt_at v n ≡ a → v ≡ record u { stmts = u.stmts ++ r ∷ [] } → Adds stmt_at IsStmtNumber u v n a
-stmt-put {u} {v} n k p r l e w =
-    let lt = below u.stmts v.stmts r n (ap (λ (x : Tables). x.stmts) w) l in
-    record {
-      extends = extends-by k p;
-      means = record {
-        is = λ x j. stmt_at-keeps j n lt ∙ e;
-        there = λ x j. omega (arith, lt, (IsAbove-Keeps j).stmts);
-      };
-    }
-
--- a block
-
-block_over-map : (f : ℕ → Stmt) (ks : List ℕ) → block_over f ks ≡ block_with (map f ks)
-block_over-map f [] = refl
-block_over-map f (k ∷ ks) = ap (tree.then (f k)) (block_over-map f ks)
-
-pub block-put : {u v : Tables} {ns : List ℕ} {s : Span} → Keeps u v → program_of v ≡ program_of u → Holds v s ns → AddsBlock u v ns s
-block-put {s = s} k p h ss a =
-    let g = extends-by k p in
-    let m = means-span stmt_at (λ w. length w.stmts) (means-later a g) h in
-    record {
-      extends = g;
-      means = record {
-        is = λ w k. block_over-map (stmt_at w) (numbers_in w s) ∙ ap block_with (m.is w k);
-        there = m.there;
-      };
-    }
-
 -- a call whose path and arguments are there
 pub call-put : {t u v : Tables} (m : Truth) (c : Call) (place : ℕ) {p : rows.Path} {n : ℕ} {args : List ℕ} {s : Span}
     → Adds name_at IsNameIn t u n (method_name place) → Keeps u v → program_of v ≡ program_of u → Holds v s args
@@ -181,30 +150,3 @@ path-longer {t} {u} {v} m s ks k {p} {n} {ns} {to} old a ns_are keeps e h =
             };
       };
     }
-
--- the path that an expression is
-
-is-path : (m : Truth) (e : Raised) (q : tree.Path) → named m e ≡ tree.path q
-    → (s : ℕ) × (ks : List ℕ) × (path_in e ≡ Some (s, ks)) × (q ≡ path_named m s ks)
-is-path m (number z) q f = absurd cc
-is-path m (boolean b) q f = absurd cc
-is-path m nil q f = absurd cc
-is-path m (path s ks) q f = (s, ks, refl, cc)
-is-path m (is_nil s ks) q f = absurd cc
-is-path m (size s ks) q f = absurd cc
-is-path m (element s ks e) q f = absurd cc
-is-path m (neg a) q f = absurd cc
-is-path m (not a) q f = absurd cc
-is-path m (binary o a b) q f = absurd cc
-
-pub path-found : (t : Tables) (m : Truth) (row : ℕ) (r : ExprRow) (p : rows.Path) (e : Raised) → r ≡ expr_row.Path p → expr_at t row ≡ expr_of t r
-    → IsExprIn t row r → IsTree t row (named m e) → FindsPath t m (path_in e) (Some p)
-path-found t m row r p e is tree_is inside means =
-    let same : named m e ≡ tree.path (path_of t p) = sym (means-now means) ∙ tree_is ∙ ap (expr_of t) is in
-    let (s, ks, found, named_so) = is-path m e (path_of t p) same in
-    let there : IsPathIn t p = subst (IsExprIn t row) is inside in
-    let path : IsPathTo t m p s ks = record {
-      is = λ w k. path_of-grows (IsAbove-Keeps k) p there ∙ named_so;
-      there = λ w k. IsPathIn-grows (IsAbove-Keeps k) p there;
-    } in
-    subst (λ o. FindsPath t m o (Some p)) (sym found) path

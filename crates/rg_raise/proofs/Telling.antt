@@ -18,7 +18,7 @@ use Rattle.rg_verify.specs.Found.{call_named}
 use Rattle.rg_verify.specs.Signs as signs
 use Rattle.rg_verify.specs.Blocks.{◌>>=◌, ◌>>◌, test, Given, Told, sign, cleared, called}
 use Rattle.rg_raise.specs.Fronts.{AreTrees}
-use Rattle.rg_raise.specs.Telling.{IsPathTo, FindsPath, MakesAs, MakesOne, IsCallSaid}
+use Rattle.rg_raise.specs.Telling.{IsPathTo, MakesAs, MakesOne, IsCallSaid}
 
 -- What a block tells, by its parts
 
@@ -83,17 +83,6 @@ pub one-refused : {V A W B : Type 0} (Is : Tables → V → A → Type 0) (Js : 
 one-refused Is Js t u v w o p refusal.Memory h f = makes-no-memory Js v w p
 one-refused Is Js t u v w None p refusal.NotRaised h f = makes-none Js v w p (f refl)
 one-refused Is Js t u v w (Some x) p refusal.NotRaised h f = absurd cc
-
--- Paths
-
-pub finds-path : (t : Tables) (m : Truth) (o : Option (ℕ × List ℕ)) (p : rows.Path) → FindsPath t m o (Some p)
-    → (q : ℕ × List ℕ) × (o ≡ Some q) × IsPathTo t m p q.0 q.1
-finds-path t m (Some q) p is = (q, refl, is)
-finds-path t m None p is = absurd is
-
-pub finds-no-path : (t : Tables) (m : Truth) (o : Option (ℕ × List ℕ)) → FindsPath t m o None → o ≡ None
-finds-no-path t m None is = refl
-finds-no-path t m (Some q) is = absurd cc
 
 -- Calls
 

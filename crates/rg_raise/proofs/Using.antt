@@ -61,7 +61,7 @@ module _ {types : List Ty} {ops : List Op} {from clears end at to : ℕ} (c : Cl
         sym step ∙ next (Some s) e
 
 -- the place that is looked for is the first one of all
-module _ {ops : List Op} {from end at : ℕ} (same : behind_place ops (end - at) at ≡ behind_place ops (end - from) from) where
+module _ (ops : List Op) (from end at : ℕ) (same : behind_place ops (end - at) at ≡ behind_place ops (end - from) from) where
   pub passing-end : end ≤ at → at ≡ behind_place ops (end - from) from
   passing-end le =
       let none : end - at ≡ 0 = omega (arith, le) in

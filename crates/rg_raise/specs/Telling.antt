@@ -50,31 +50,12 @@ array_of (walk.Enter k z) e = None
 abbrev pub IsPathTo : Tables → (in_method : Truth) → rows.Path → (slot : ℕ) → (fields : List ℕ) → Type 0
 IsPathTo t m p s ks = IsPath t p (path_named m s ks)
 
--- the path that an expression is, or that it is none
-abbrev pub FindsPath : Tables → (in_method : Truth) → (wanted : Option (ℕ × List ℕ)) → Option rows.Path → Type 0
-FindsPath t m (Some q) (Some p) = IsPathTo t m p q.0 q.1
-FindsPath t m None (Some p) = ⊥
-FindsPath t m wanted None = wanted ≡ None
-
 -- what a statement says
 abbrev pub kind_of : Tables → row_kind.StmtKind → tree.StmtKind
 kind_of t k = kind_over t (stmt_at t) k
 
 abbrev pub IsKindRow : Tables → row_kind.StmtKind → Type 0
 IsKindRow t k = IsKindIn t (length t.stmts) k
-
--- statements by their numbers, in order
-abbrev pub AreStmts : Tables → List ℕ → List tree.Stmt → Type 0
-AreStmts t ns ss = Means (λ u. map (stmt_at u)) (λ u. All (IsStmtNumber u)) t ns ss
-
--- statements one behind another
-abbrev pub block_with : List tree.Stmt → tree.Block
-block_with [] = tree.empty
-block_with (s ∷ ss) = tree.then s (block_with ss)
-
--- whatever statements these numbers stand for, the span is their block
-abbrev pub AddsBlock : (old new : Tables) → List ℕ → Span → Type 0
-AddsBlock old new ns s = (ss : List tree.Stmt) → AreStmts old ns ss → Adds block_of IsBlockIn old new s (block_with ss)
 
 -- what is told at an address, as rows, and the address behind it; or that nothing is told
 abbrev pub MakesAs : {V A : Type 0} → (Is : Tables → V → A → Type 0) → (old new : Tables) → Told A → Result (V × ℕ) Refusal → Type 0
@@ -123,7 +104,3 @@ after_of (return e) = after.Last
 -- a statement behind so many variables
 abbrev pub IsKindSaid : (in_method : Truth) → (slots : ℕ) → Tables → KindSaid → Kind → Type 0
 IsKindSaid m n t v k = Means kind_of IsKindRow t v.row (kind_named m n k) × (v.after ≡ after_of k)
-
--- a block behind so many variables
-abbrev pub IsBlockSaid : (in_method : Truth) → (slots : ℕ) → Tables → Span → Block → Type 0
-IsBlockSaid m n t v b = Means block_of IsBlockIn t v (block_named m n b)

@@ -1,7 +1,10 @@
-//! Blocks of statements, raised from their code into rows (docs/architecture.md, "Modules"): what
-//! `rg_verify/specs/Blocks` tells of a block at an address, added to a program. `specs/Telling`
-//! says what a call makes of what is told: its row and the address behind it, or that nothing is
-//! told. All is private yet: blocks within statements are still to come.
+//! Statements without blocks, raised from their code into rows (docs/architecture.md, "Modules"):
+//! what `rg_verify/specs/Blocks` tells of a statement at an address, added to a program. One clause
+//! serves all calls (`MakesAs` in `specs/Telling`): what is told is there as a row, with the address
+//! behind it; or nothing is told, or no memory was found. `raise_fronts` raises what a statement
+//! begins with, and `take_first` takes the first part of it (`specs/Fronts`); behind an object goes
+//! on `object_by`, behind a place in an array `element_written`, behind a right side `taken`. All
+//! else is private.
 #![tactic(auto)]
 
 mod ends;
@@ -13,3 +16,11 @@ mod said;
 mod signs;
 mod types;
 mod uses;
+
+pub use fronts::{raise_fronts, take_first};
+pub use kinds::{element_written, object_by, taken};
+pub use rights::{array_row, made_behind};
+pub use row_parts::longer_path;
+pub use said::{After, Fronts, KindSaid, RightSaid, Stretch};
+pub use types::slot_type;
+pub use uses::behind_uses;

@@ -1,23 +1,20 @@
 //! Parts of statements, as rows (docs/architecture.md, "Modules").
 
 ghost use Rattle.std.specs.Prelude.{◌≡◌, ℕ, List, [], ◌∷◌, ◌++◌, map, IfOk};
-ghost use Rattle.rg_tree.specs.Tree as tree;
 ghost use Rattle.rg_tree.specs.Rows.Tables.{numbers_in};
-ghost use Rattle.rg_tree.specs.Rows.RowTrees.{type_of, path_of, right_of, call_of, stmt_at};
+ghost use Rattle.rg_tree.specs.Rows.RowTrees.{type_of, path_of, right_of, call_of};
 ghost use Rattle.rg_tree.specs.Rows.RowsExist.{IsWithin, IsTypeIn, IsPathIn, IsRightIn, IsCallIn};
-ghost use Rattle.rg_tree.specs.Rows.RowsExist.{IsStmtNumber};
 ghost use Rattle.rg_tree.specs.Adds.{Adds};
 ghost use Rattle.rg_verify.specs.Naming.{written};
-ghost use Rattle.rg_verify.specs.Raised.{Raised, named, path_named};
-ghost use Rattle.rg_verify.specs.Rows.{IsTree};
+ghost use Rattle.rg_verify.specs.Raised.{named, path_named};
 ghost use Rattle.rg_verify.specs.Statements as statements;
 ghost use Rattle.rg_verify.specs.Found.{right_named, call_named};
 ghost use Rattle.rg_verify.specs.Blocks as blocks;
 ghost use Rattle.rg_raise.specs.Fronts.{AreTrees};
-ghost use Rattle.rg_raise.specs.Telling.{IsPathTo, FindsPath, kind_of, IsKindRow, AddsBlock};
+ghost use Rattle.rg_raise.specs.Telling.{IsPathTo};
 
 use rg_base::{Memory, Ty};
-use rg_tree::{CallRow, ExprRow, Path, Program, Right, Span, StmtKind, StmtRow, TypeRow};
+use rg_tree::{CallRow, Path, Program, Right, TypeRow};
 use rg_verify::{Body, Making, add_name};
 
 /// Adds what a type needs.
@@ -69,18 +66,6 @@ pub(crate) fn making_row(body: Body, program: &mut Program, making: Making) -> R
     }
 }
 
-/// The path that an expression is, where it is one.
-pub(crate) fn path_in(body: Body, program: &Program, row: u32) -> Option<Path>
-    requires { (e : Raised) × IsTree program.now row (named body.in_method e) }
-    ensures { (e : Raised) → IsTree program.now row (named body.in_method e) →
-        FindsPath program.now body.in_method (blocks.path_in e) result }
-{
-    match program.expr(row) {
-        ExprRow::Path(path) => Some(path),
-        _ => None,
-    }
-}
-
 // The names of the fields of a path, and one more.
 fn longer(body: Body, program: &Program, path: Path, name: u32) -> Result<Vec<u32>, Memory>
     requires { IsWithin program.now path.fields }
@@ -97,7 +82,7 @@ fn longer(body: Body, program: &Program, path: Path, name: u32) -> Result<Vec<u3
 }
 
 /// Adds what a path needs that goes on by a field.
-pub(crate) fn longer_path(
+pub fn longer_path(
     body: Body,
     program: &mut Program,
     path: Path,
@@ -134,22 +119,4 @@ pub(crate) fn call_row(
     let method = add_name(body.alloc, program, b'm', place)?;
     let args = program.add_order(args)?;
     Ok(CallRow { path, method, args })
-}
-
-/// Adds a statement, whose names, expressions and blocks are there.
-pub(crate) fn put_stmt(program: &mut Program, line: u64, kind: StmtKind) -> Result<u32, Memory>
-    requires { IsKindRow program.old kind }
-    ensures { IfOk result (λ n. Adds stmt_at IsStmtNumber program.old program.new n
-        (tree.stmt line (kind_of program.old kind))) }
-{
-    let number = program.add_stmt(StmtRow { line, kind })?;
-    Ok(number)
-}
-
-/// Keeps statements as a block.
-pub(crate) fn put_block(program: &mut Program, numbers: &[u32]) -> Result<Span, Memory>
-    ensures { IfOk result (λ s. AddsBlock program.old program.new numbers.now s) }
-{
-    let span = program.add_order(numbers)?;
-    Ok(span)
 }

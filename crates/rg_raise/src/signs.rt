@@ -2,14 +2,12 @@
 //! (docs/architecture.md, "Modules").
 
 ghost use Rattle.std.specs.Prelude.{◌≡◌, ◌+◌, ◌<◌, ◌^◌, slice_get, IfSome};
-ghost use Rattle.rg_verify.specs.Signs.{making_of, target_of, close_of, open_of, walk_of};
-ghost use Rattle.rg_verify.specs.Signs.{behind_of, mark_of, clear_of, call_of, put_of, jump_of};
-ghost use Rattle.rg_verify.specs.Signs.{put_element_of, end_of, leave_of, left_of, pace_of};
-ghost use Rattle.rg_verify.specs.Signs.{closing_of};
+ghost use Rattle.rg_verify.specs.Signs.{making_of, target_of, walk_of, behind_of, mark_of};
+ghost use Rattle.rg_verify.specs.Signs.{clear_of, call_of, put_of, put_element_of, left_of, pace_of};
 ghost use Rattle.rg_verify.specs.Blocks.{sign};
 
 use rg_code::{CodeList, Op};
-use rg_verify::{Behind, Close, Leave, Making, Open, Target, Walk};
+use rg_verify::{Behind, Making, Target, Walk};
 
 // The instruction at an address.
 fn op_at(code: &CodeList, at: usize) -> Option<Op>
@@ -35,7 +33,18 @@ pub(crate) fn making_at(code: &CodeList, at: usize) -> Option<Making>
         Op::Merge { slot } => Some(Making::Merge { slot }),
         Op::Read => Some(Making::Read),
         Op::More => Some(Making::More),
-        _ => None,
+        Op::Mark { .. } | Op::Int { .. } | Op::Bool { .. } | Op::Nil | Op::Load { .. } => None,
+        Op::Clear { .. } | Op::Store { .. } | Op::Own { .. } | Op::Field { .. } | Op::IsNil => None,
+        Op::Neg | Op::Add | Op::Sub | Op::Mul | Op::Div | Op::Rem | Op::Eq | Op::Ne => None,
+        Op::Lt | Op::Le | Op::Gt | Op::Ge | Op::Not => None,
+        Op::Jump { .. } | Op::JumpFalse { .. } | Op::And { .. } | Op::Or { .. } | Op::Check => None,
+        Op::Pace => None,
+        Op::Put { .. } | Op::Swap { .. } => None,
+        Op::Room | Op::Call { .. } | Op::Ret | Op::RetVoid => None,
+        Op::Enter { .. } | Op::EnterField { .. } | Op::Leave { .. } | Op::End { .. } => None,
+        Op::Print | Op::Collect | Op::Pop | Op::Drop | Op::Halt => None,
+        Op::NewArray { .. } | Op::NewTmpArray { .. } | Op::NewIsoArray { .. } => None,
+        Op::Size | Op::Bound | Op::Element | Op::PutElement | Op::LeaveGiving { .. } => None,
     }
 }
 
@@ -47,32 +56,18 @@ pub(crate) fn target_at(code: &CodeList, at: usize) -> Option<Target>
     match op_at(code, at)? {
         Op::Store { slot } => Some(Target::Store { slot }),
         Op::Own { slot } => Some(Target::Own { slot }),
-        _ => None,
-    }
-}
-
-/// At an address, what stands behind a whole expression.
-pub(crate) fn close_at(code: &CodeList, at: usize) -> Option<Close>
-    ensures told { result ≡ sign close_of code.now.ops at }
-    ensures next { IfSome result (λ x. at + 1 < 2 ^ 64) }
-{
-    match op_at(code, at)? {
-        Op::Print => Some(Close::Print),
-        Op::Ret => Some(Close::Return),
-        Op::JumpFalse { to } => Some(Close::Test { to }),
-        _ => None,
-    }
-}
-
-/// At an address, what a statement without expressions begins with.
-pub(crate) fn open_at(code: &CodeList, at: usize) -> Option<Open>
-    ensures told { result ≡ sign open_of code.now.ops at }
-    ensures next { IfSome result (λ x. at + 1 < 2 ^ 64) }
-{
-    match op_at(code, at)? {
-        Op::Collect => Some(Open::Collect),
-        Op::Enter { slot, bridge } => Some(Open::Enter { slot, bridge }),
-        _ => None,
+        Op::Mark { .. } | Op::Int { .. } | Op::Bool { .. } | Op::Nil | Op::Load { .. } => None,
+        Op::Clear { .. } | Op::Field { .. } | Op::IsNil => None,
+        Op::Neg | Op::Add | Op::Sub | Op::Mul | Op::Div | Op::Rem | Op::Eq | Op::Ne => None,
+        Op::Lt | Op::Le | Op::Gt | Op::Ge | Op::Not => None,
+        Op::Jump { .. } | Op::JumpFalse { .. } | Op::And { .. } | Op::Or { .. } | Op::Check => None,
+        Op::New { .. } | Op::NewTmp { .. } | Op::NewIso { .. } | Op::Pace => None,
+        Op::Put { .. } | Op::Swap { .. } | Op::Freeze { .. } | Op::Merge { .. } => None,
+        Op::Read | Op::More | Op::Room | Op::Call { .. } | Op::Ret | Op::RetVoid => None,
+        Op::Enter { .. } | Op::EnterField { .. } | Op::Leave { .. } | Op::End { .. } => None,
+        Op::Print | Op::Collect | Op::Pop | Op::Drop | Op::Halt => None,
+        Op::NewArray { .. } | Op::NewTmpArray { .. } | Op::NewIsoArray { .. } => None,
+        Op::Size | Op::Bound | Op::Element | Op::PutElement | Op::LeaveGiving { .. } => None,
     }
 }
 
@@ -86,7 +81,17 @@ pub(crate) fn walk_at(code: &CodeList, at: usize) -> Option<Walk>
         Op::NewArray { class } => Some(Walk::New { class }),
         Op::NewTmpArray { class } => Some(Walk::NewTmp { class }),
         Op::NewIsoArray { class, manager } => Some(Walk::NewIso { class, manager }),
-        _ => None,
+        Op::Mark { .. } | Op::Int { .. } | Op::Bool { .. } | Op::Nil | Op::Load { .. } => None,
+        Op::Clear { .. } | Op::Store { .. } | Op::Own { .. } | Op::Field { .. } | Op::IsNil => None,
+        Op::Neg | Op::Add | Op::Sub | Op::Mul | Op::Div | Op::Rem | Op::Eq | Op::Ne => None,
+        Op::Lt | Op::Le | Op::Gt | Op::Ge | Op::Not => None,
+        Op::Jump { .. } | Op::JumpFalse { .. } | Op::And { .. } | Op::Or { .. } | Op::Check => None,
+        Op::New { .. } | Op::NewTmp { .. } | Op::NewIso { .. } | Op::Pace => None,
+        Op::Put { .. } | Op::Swap { .. } | Op::Freeze { .. } | Op::Merge { .. } => None,
+        Op::Read | Op::More | Op::Room | Op::Call { .. } | Op::Ret | Op::RetVoid => None,
+        Op::Enter { .. } | Op::Leave { .. } | Op::End { .. } => None,
+        Op::Print | Op::Collect | Op::Pop | Op::Drop | Op::Halt => None,
+        Op::Size | Op::Bound | Op::Element | Op::PutElement | Op::LeaveGiving { .. } => None,
     }
 }
 
@@ -98,7 +103,18 @@ pub(crate) fn behind_at(code: &CodeList, at: usize) -> Option<Behind>
     match op_at(code, at)? {
         Op::Room => Some(Behind::Room),
         Op::Swap { slot, index } => Some(Behind::Swap { slot, index }),
-        _ => None,
+        Op::Mark { .. } | Op::Int { .. } | Op::Bool { .. } | Op::Nil | Op::Load { .. } => None,
+        Op::Clear { .. } | Op::Store { .. } | Op::Own { .. } | Op::Field { .. } | Op::IsNil => None,
+        Op::Neg | Op::Add | Op::Sub | Op::Mul | Op::Div | Op::Rem | Op::Eq | Op::Ne => None,
+        Op::Lt | Op::Le | Op::Gt | Op::Ge | Op::Not => None,
+        Op::Jump { .. } | Op::JumpFalse { .. } | Op::And { .. } | Op::Or { .. } | Op::Check => None,
+        Op::New { .. } | Op::NewTmp { .. } | Op::NewIso { .. } | Op::Pace => None,
+        Op::Put { .. } | Op::Freeze { .. } | Op::Merge { .. } => None,
+        Op::Read | Op::More | Op::Call { .. } | Op::Ret | Op::RetVoid => None,
+        Op::Enter { .. } | Op::EnterField { .. } | Op::Leave { .. } | Op::End { .. } => None,
+        Op::Print | Op::Collect | Op::Pop | Op::Drop | Op::Halt => None,
+        Op::NewArray { .. } | Op::NewTmpArray { .. } | Op::NewIsoArray { .. } => None,
+        Op::Size | Op::Bound | Op::Element | Op::PutElement | Op::LeaveGiving { .. } => None,
     }
 }
 
@@ -107,10 +123,10 @@ pub(crate) fn mark_at(code: &CodeList, at: usize) -> Option<u64>
     ensures told { result ≡ sign mark_of code.now.ops at }
     ensures next { IfSome result (λ x. at + 1 < 2 ^ 64) }
 {
-    match op_at(code, at)? {
-        Op::Mark { line } => Some(line),
-        _ => None,
-    }
+    let Op::Mark { line } = op_at(code, at)? else {
+        return None;
+    };
+    Some(line)
 }
 
 /// At an address, the slot that is cleared.
@@ -118,10 +134,10 @@ pub(crate) fn clear_at(code: &CodeList, at: usize) -> Option<u32>
     ensures told { result ≡ sign clear_of code.now.ops at }
     ensures next { IfSome result (λ x. at + 1 < 2 ^ 64) }
 {
-    match op_at(code, at)? {
-        Op::Clear { slot } => Some(slot),
-        _ => None,
-    }
+    let Op::Clear { slot } = op_at(code, at)? else {
+        return None;
+    };
+    Some(slot)
 }
 
 /// At an address, the method that is called.
@@ -129,10 +145,10 @@ pub(crate) fn call_at(code: &CodeList, at: usize) -> Option<u32>
     ensures told { result ≡ sign call_of code.now.ops at }
     ensures next { IfSome result (λ x. at + 1 < 2 ^ 64) }
 {
-    match op_at(code, at)? {
-        Op::Call { method } => Some(method),
-        _ => None,
-    }
+    let Op::Call { method } = op_at(code, at)? else {
+        return None;
+    };
+    Some(method)
 }
 
 /// At an address, the field that is written.
@@ -140,10 +156,10 @@ pub(crate) fn put_at(code: &CodeList, at: usize) -> Option<u32>
     ensures told { result ≡ sign put_of code.now.ops at }
     ensures next { IfSome result (λ x. at + 1 < 2 ^ 64) }
 {
-    match op_at(code, at)? {
-        Op::Put { index } => Some(index),
-        _ => None,
-    }
+    let Op::Put { index } = op_at(code, at)? else {
+        return None;
+    };
+    Some(index)
 }
 
 /// At an address, an element is written.
@@ -151,47 +167,10 @@ pub(crate) fn put_element_at(code: &CodeList, at: usize) -> Option<()>
     ensures told { result ≡ sign put_element_of code.now.ops at }
     ensures next { IfSome result (λ x. at + 1 < 2 ^ 64) }
 {
-    match op_at(code, at)? {
-        Op::PutElement => Some(()),
-        _ => None,
-    }
-}
-
-/// At an address, where a jump leads.
-pub(crate) fn jump_at(code: &CodeList, at: usize) -> Option<usize>
-    ensures told { result ≡ sign jump_of code.now.ops at }
-    ensures next { IfSome result (λ x. at + 1 < 2 ^ 64) }
-{
-    match op_at(code, at)? {
-        Op::Jump { to } => Some(to),
-        _ => None,
-    }
-}
-
-/// At an address, the slot from which on a block's end takes slots away.
-pub(crate) fn end_at(code: &CodeList, at: usize) -> Option<u32>
-    ensures told { result ≡ sign end_of code.now.ops at }
-    ensures next { IfSome result (λ x. at + 1 < 2 ^ 64) }
-{
-    match op_at(code, at)? {
-        Op::End { slot } => Some(slot),
-        _ => None,
-    }
-}
-
-/// At an address, how a window is left.
-pub(crate) fn leave_at(code: &CodeList, at: usize) -> Option<Leave>
-    ensures told { result ≡ sign leave_of code.now.ops at }
-    ensures next { IfSome result (λ x. at + 1 < 2 ^ 64) }
-{
-    match op_at(code, at)? {
-        Op::Leave { slot } => Some(Leave { slot, given: None }),
-        Op::LeaveGiving { given, slot } => Some(Leave {
-            slot,
-            given: Some(given),
-        }),
-        _ => None,
-    }
+    let Op::PutElement = op_at(code, at)? else {
+        return None;
+    };
+    Some(())
 }
 
 /// At an address, whether a result that nobody takes is released.
@@ -202,7 +181,18 @@ pub(crate) fn left_at(code: &CodeList, at: usize) -> Option<bool>
     match op_at(code, at)? {
         Op::Pop => Some(false),
         Op::Drop => Some(true),
-        _ => None,
+        Op::Mark { .. } | Op::Int { .. } | Op::Bool { .. } | Op::Nil | Op::Load { .. } => None,
+        Op::Clear { .. } | Op::Store { .. } | Op::Own { .. } | Op::Field { .. } | Op::IsNil => None,
+        Op::Neg | Op::Add | Op::Sub | Op::Mul | Op::Div | Op::Rem | Op::Eq | Op::Ne => None,
+        Op::Lt | Op::Le | Op::Gt | Op::Ge | Op::Not => None,
+        Op::Jump { .. } | Op::JumpFalse { .. } | Op::And { .. } | Op::Or { .. } | Op::Check => None,
+        Op::New { .. } | Op::NewTmp { .. } | Op::NewIso { .. } | Op::Pace => None,
+        Op::Put { .. } | Op::Swap { .. } | Op::Freeze { .. } | Op::Merge { .. } => None,
+        Op::Read | Op::More | Op::Room | Op::Call { .. } | Op::Ret | Op::RetVoid => None,
+        Op::Enter { .. } | Op::EnterField { .. } | Op::Leave { .. } | Op::End { .. } => None,
+        Op::Print | Op::Collect | Op::Halt => None,
+        Op::NewArray { .. } | Op::NewTmpArray { .. } | Op::NewIsoArray { .. } => None,
+        Op::Size | Op::Bound | Op::Element | Op::PutElement | Op::LeaveGiving { .. } => None,
     }
 }
 
@@ -211,22 +201,8 @@ pub(crate) fn pace_at(code: &CodeList, at: usize) -> Option<()>
     ensures told { result ≡ sign pace_of code.now.ops at }
     ensures next { IfSome result (λ x. at + 1 < 2 ^ 64) }
 {
-    match op_at(code, at)? {
-        Op::Pace => Some(()),
-        _ => None,
-    }
-}
-
-/// At an address, what ends a block, behind a mark.
-pub(crate) fn closing_at(code: &CodeList, at: usize) -> Option<()>
-    ensures told { result ≡ sign closing_of code.now.ops at }
-    ensures next { IfSome result (λ x. at + 1 < 2 ^ 64) }
-{
-    match op_at(code, at)? {
-        Op::End { .. } => Some(()),
-        Op::Leave { .. } => Some(()),
-        Op::LeaveGiving { .. } => Some(()),
-        Op::RetVoid => Some(()),
-        _ => None,
-    }
+    let Op::Pace = op_at(code, at)? else {
+        return None;
+    };
+    Some(())
 }

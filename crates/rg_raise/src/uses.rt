@@ -44,7 +44,9 @@ fn goes_on(part: Option<Part>) -> bool
     match part {
         Some(Part::Field { .. }) | Some(Part::IsNil) | Some(Part::Size) => true,
         Some(Part::Check) | Some(Part::Element) => true,
-        _ => false,
+        Some(Part::Int { .. }) | Some(Part::Bool { .. }) | Some(Part::Nil) => false,
+        Some(Part::Load { .. }) | Some(Part::Bound) | Some(Part::Neg) | Some(Part::Not) => false,
+        Some(Part::Operator { .. }) | Some(Part::Between { .. }) | None => false,
     }
 }
 
@@ -55,10 +57,10 @@ fn value_of(part: Option<Part>, goes: bool) -> Option<u32>
     if goes {
         return None;
     }
-    match part {
-        Some(Part::Load { slot }) => Some(slot),
-        _ => None,
-    }
+    let Some(Part::Load { slot }) = part else {
+        return None;
+    };
+    Some(slot)
 }
 
 // Whether a place ends with an instruction, by whether it goes on.
@@ -68,10 +70,10 @@ fn ends_with(part: Option<Part>, goes: bool) -> bool
     if goes {
         return false;
     }
-    match part {
-        Some(Part::Bound) => true,
-        _ => false,
+    if let Some(Part::Bound) = part {
+        return true;
     }
+    false
 }
 
 // The slot that an instruction uses up, with that of the next one.
@@ -87,7 +89,7 @@ fn use_at(code: &CodeList, types: &Vec<Ty>, at: usize, next: usize) -> Option<u3
 }
 
 /// The address behind what clears, from an address on, the slots that a stretch of code uses up.
-pub(crate) fn behind_uses(
+pub fn behind_uses(
     code: &CodeList,
     types: &Vec<Ty>,
     stretch: Stretch,

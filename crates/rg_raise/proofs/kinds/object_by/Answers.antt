@@ -24,8 +24,8 @@ returns-in-Some-Swap c s ks fs path left =
     (object_by g types s ks fs c.args.fronts.code.end w) c.swap_by.result) (ap Some (sym c.in-Some-Swap.field-0-is) ∙ told)
     (c.swap_by.ensures (length types) s ks fs path left.rows)
 
-pub returns : goal.returns
-returns c s ks fs path left =
+pub returns-in-None : goal.returns-in-None
+returns-in-None c s ks fs path left =
     let m = c.args.body.in_method in
     let g = given c.args.source.now c.args.methods.now in
     let types = c.args.types.now.items in

@@ -16,7 +16,7 @@ returns-in_ok-name-in-NewIso c e tree =
 
 pub returns-in_err-name-in-New : goal.returns-in_err-name-in-New
 returns-in_err-name-in-New c e tree =
-    let p = err_from_is_err_and c.from_residual-in_err-name-in-New.result c.from_residual-in_err-name-in-New.ensures.1 in
+    let p = err_from_is_err_and c.from_residual.result c.from_residual.ensures.1 in
     rw (p.1, p.2) (array-unnamed c.args.program.now c.class_row.new.program c.args.body.in_method (class_name c.in-New.class)
     (array_of c.args.walk e) c.in_err-name-in-New.field-0.0 c.in_err-name-in-New.ensures)
 
