@@ -21,5 +21,5 @@ loop-at-preserved c =
     let at = c.loop-at.at in
     let lt : at < length rows = omega (arith, c.loop-at-test.true, c.len.ensures) in
     let next = alone-next rows at c.index.result.now lt c.index.ensures ∙ ap (λ (r : FrontRow). r ∷ drop (at + 1) rows) c.in-Expression.is in
-    subst (λ (ns : List ℕ). rows_alone ns (drop (at + 1) rows) ≡ rows_alone [] rows) (sym (c.in-Ok.ensures tt).items)
+    subst (λ (ns : List ℕ). rows_alone ns (drop (at + 1) rows) ≡ rows_alone [] rows) (sym c.in-Ok.ensures.items)
     (alone-on rows at c.loop-at.found.items c.in-Expression.row next c.loop-at.invariant)

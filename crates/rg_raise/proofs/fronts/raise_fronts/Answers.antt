@@ -12,9 +12,9 @@ pub returns-in_err-rows : goal.returns-in_err-rows
 returns-in_err-rows c =
     let p = err_from_is_err_and c.from_residual.result c.from_residual.ensures.1 in
     rw (p.1, p.2) (fronts-refused c.args.program.now c.raise_expressions.new.program c.args.body.in_method c.args.code.now.ops c.args.from
-    c.in_err-rows.field-0.0 c.in_err-rows.ensures)
+    c.in_err-rows.field-0.0 c.in_err-rows.ensures.raises)
 
 pub returns : goal.returns
 returns c =
     fronts-raised c.args.program.now c.raise_expressions.new.program c.args.body.in_method c.args.code.now.ops c.args.from c.in_ok-rows.rows
-    c.in_ok-rows.end c.in_ok-rows.ensures
+    c.in_ok-rows.end c.in_ok-rows.ensures.raises
