@@ -1,5 +1,5 @@
 -- Fronts that stand at an address, as rows.
-use Rattle.std.proofs.Common.{◌≡◌, ℕ, zero, suc, ◌+◌, ◌-◌, ◌<◌, ◌≤◌, Bool as Truth, List, [], ◌∷◌, ◌++◌, length, map, drop, get_or, Option, Some, None}
+use Rattle.std.proofs.Common.{◌≡◌, ℕ, suc, ◌+◌, ◌-◌, ◌<◌, ◌≤◌, Bool as Truth, List, [], ◌∷◌, ◌++◌, length, map, drop, get_or, Option, Some, None}
 use Rattle.std.proofs.Common.{Ok, Err, Vec, Global, refl, sym, ap, ◌∙◌, subst, append_assoc, arith}
 use Rattle.std.specs.List.{remove}
 use Rattle.std.proofs.Math.Seq.{drop-cons}
@@ -8,11 +8,9 @@ use Rattle.std.proofs.lemmas.List.Elements.{All-nil, All-cons, All-head, All-tai
 use Rattle.rg_base.specs.declared.ty.Ty.{Ty}
 use Rattle.rg_tree.specs.declared.rows.Path as rows
 use Rattle.rg_tree.specs.Tree as tree
-use Rattle.rg_tree.specs.Tree.{Expr, Path}
+use Rattle.rg_tree.specs.Tree.{Path}
 use Rattle.rg_tree.specs.Rows.Tables.{Tables}
-use Rattle.rg_tree.specs.Rows.RowTrees.{expr_at}
 use Rattle.rg_tree.specs.Rows.RowsExist.{IsExprNumber}
-use Rattle.rg_tree.specs.Adds.{Means}
 use Rattle.rg_tree.proofs.Callers.{Keeps-same}
 use Rattle.rg_tree.proofs.Adding.{extends-same}
 use Rattle.rg_code.specs.declared.op.Op.{Op}
@@ -20,18 +18,18 @@ use Rattle.rg_verify.specs.declared.refusal.Refusal.{Refusal}
 use Rattle.rg_verify.specs.declared.refusal.Refusal.TheVariants as refusal
 use Rattle.rg_verify.specs.declared.front.FrontRow.{FrontRow}
 use Rattle.rg_verify.specs.declared.front.FrontRow.TheVariants as front
-use Rattle.rg_verify.specs.Raised.{Raised, named, path_named, Front, expression, object, place}
-use Rattle.rg_verify.specs.Rows.{NamedFront, an_expression, an_object, a_place, front_named, front_at, IsFrontIn, IsTree}
+use Rattle.rg_verify.specs.Raised.{Raised, named, Front, expression, object, place}
+use Rattle.rg_verify.specs.Rows.{front_named, front_at, IsFrontIn, IsTree}
 use Rattle.rg_verify.specs.Raises.{Stand, RaisesAll}
 use Rattle.rg_verify.specs.Raising.{raised, walk}
 use Rattle.rg_verify.specs.Statements.{used, all_used}
-use Rattle.rg_verify.specs.Blocks.{◌>>=◌, Told, fronts_at, values_in}
+use Rattle.rg_verify.specs.Blocks.{◌>>=◌, Told, values_in}
 use Rattle.rg_verify.proofs.Raises.{raised-stand}
 use Rattle.rg_verify.proofs.Again.{stand-raised}
 use Rattle.rg_raise.specs.declared.said.Fronts.{Fronts}
 use Rattle.rg_raise.specs.Uses.{used_in}
 use Rattle.rg_raise.specs.Fronts.{IsFront, AreFrontRows, AreTrees, AreFrontsAt, AreLeft, MakesFronts, TakesFront, TakesFirst, start_by, rows_alone}
-use Rattle.rg_raise.specs.Fronts.{FindsAlone, AreExprs, FindsExprs}
+use Rattle.rg_raise.specs.Fronts.{FindsAlone, FindsExprs}
 use Rattle.rg_raise.specs.Telling.{IsPathTo, MakesAs}
 use Rattle.rg_raise.proofs.Used.{raised-uses, place-uses}
 use Rattle.rg_raise.proofs.Telling.{makes-none, makes-no-memory}

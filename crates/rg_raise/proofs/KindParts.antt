@@ -1,5 +1,5 @@
 -- Values that go into slots, fields and elements.
-use Rattle.std.proofs.Common.{◌≡◌, ◌==◌, ℕ, suc, ◌+◌, Bool as Truth, true, false, not, List, [], ◌∷◌, ◌++◌, length, Option, Some, None, Ok, Err}
+use Rattle.std.proofs.Common.{◌≡◌, ◌==◌, ℕ, suc, ◌+◌, Bool as Truth, true, false, List, [], ◌∷◌, ◌++◌, length, Option, Some, None, Ok, Err}
 use Rattle.std.proofs.Common.{refl, sym, ap, ◌∙◌, subst, arith}
 use Rattle.std.proofs.lemmas.Bool.{eq-eqb, eqb-true}
 use Rattle.rg_base.specs.declared.ty.Ty.{Ty}
@@ -19,11 +19,11 @@ use Rattle.rg_verify.specs.declared.signs.Target.TheVariants as target
 use Rattle.rg_verify.specs.Naming.{variable_name, written}
 use Rattle.rg_verify.specs.Raised.{Raised, path_named, named, Front}
 use Rattle.rg_verify.specs.Rows.{IsTree}
-use Rattle.rg_verify.specs.Statements.{Right, Kind, assign, write, write_element, type_at}
+use Rattle.rg_verify.specs.Statements.{Right, assign, write, write_element, type_at}
 use Rattle.rg_verify.specs.Statements as statements
 use Rattle.rg_verify.specs.Found.{right_named}
 use Rattle.rg_verify.specs.Signs.{target_of, put_of, put_element_of}
-use Rattle.rg_verify.specs.Blocks.{◌>>=◌, Given, Told, sign, slot_type, right_behind, paces, paced, stored, taken_by, taken, written_to}
+use Rattle.rg_verify.specs.Blocks.{◌>>=◌, Given, sign, slot_type, right_behind, paces, paced, stored, taken_by, taken, written_to}
 use Rattle.rg_verify.specs.Blocks.{element_written}
 use Rattle.rg_raise.specs.declared.said.RightSaid.{RightSaid}
 use Rattle.rg_raise.specs.declared.said.KindSaid.{KindSaid}

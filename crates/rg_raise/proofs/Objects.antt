@@ -22,10 +22,10 @@ use Rattle.rg_raise.specs.declared.said.CallSaid.{CallSaid}
 use Rattle.rg_raise.specs.declared.said.KindSaid.{KindSaid}
 use Rattle.rg_raise.specs.declared.said.After.TheVariants as after
 use Rattle.rg_raise.specs.Fronts.{AreFrontRows}
-use Rattle.rg_raise.specs.Telling.{IsPathTo, MakesAs, kind_of, IsKindRow, IsCallSaid, IsKindSaid}
+use Rattle.rg_raise.specs.Telling.{MakesAs, kind_of, IsKindRow, IsCallSaid, IsKindSaid}
 use Rattle.rg_raise.proofs.Rows.{means-one, means-two}
 use Rattle.rg_raise.proofs.FrontRows.{rows-many}
-use Rattle.rg_raise.proofs.Telling.{bind-is, bind-none, makes-none, makes-so, makes-behind, refused}
+use Rattle.rg_raise.proofs.Telling.{bind-is, bind-none, makes-so, makes-behind, refused}
 
 -- A call alone
 

@@ -1,6 +1,6 @@
 -- Right sides that are told at an address.
 use Rattle.std.proofs.Common.{◌≡◌, ℕ, suc, ◌+◌, Bool as Truth, true, false, List, [], ◌∷◌, Option, Some, None, Ok, Err}
-use Rattle.std.proofs.Common.{refl, sym, ap, ◌∙◌, subst, arith}
+use Rattle.std.proofs.Common.{refl, ap, ◌∙◌, arith}
 use Rattle.rg_base.specs.declared.ty.Ty.{Ty}
 use Rattle.rg_base.specs.declared.words.Manager.{Manager}
 use Rattle.rg_tree.specs.declared.rows.Right.TheVariants as right_row
@@ -10,20 +10,20 @@ use Rattle.rg_tree.specs.Rows.Tables.{Tables, name_at}
 use Rattle.rg_tree.specs.Rows.RowTrees.{right_of}
 use Rattle.rg_tree.specs.Rows.RowsExist.{IsNameIn, IsRightIn}
 use Rattle.rg_tree.specs.Adds.{Adds}
-use Rattle.rg_tree.proofs.Adding.{extends-same, extends-trans, means-later}
+use Rattle.rg_tree.proofs.Adding.{extends-same, means-later}
 use Rattle.rg_verify.specs.declared.refusal.Refusal.{Refusal}
 use Rattle.rg_verify.specs.declared.refusal.Refusal.TheVariants as refusal
 use Rattle.rg_verify.specs.declared.signs.Walk.{Walk}
 use Rattle.rg_verify.specs.declared.signs.Walk.TheVariants as walk
 use Rattle.rg_verify.specs.Naming.{class_name}
-use Rattle.rg_verify.specs.Raised.{Raised, named, Front, expression, object, place}
+use Rattle.rg_verify.specs.Raised.{Raised, named, Front, expression}
 use Rattle.rg_verify.specs.Rows.{IsTree}
 use Rattle.rg_verify.specs.Statements.{Call, Right, value, new, new_tmp, new_iso, result_of, all_used}
 use Rattle.rg_verify.specs.Signs.{behind_of, walk_of}
-use Rattle.rg_verify.specs.Blocks.{◌>>=◌, ◌>>◌, test, Given, Told, sign, cleared, called, is_room, values_in, right_by, result_by, right_behind}
+use Rattle.rg_verify.specs.Blocks.{◌>>=◌, ◌>>◌, test, Given, sign, cleared, called, is_room, right_by, result_by, right_behind}
 use Rattle.rg_raise.specs.declared.said.CallSaid.{CallSaid}
 use Rattle.rg_raise.specs.declared.said.RightSaid.{RightSaid}
-use Rattle.rg_raise.specs.Telling.{IsPathTo, MakesAs, MakesOne, IsCallSaid, AddsName, IsRightSaid, roomed, array_of}
+use Rattle.rg_raise.specs.Telling.{MakesAs, MakesOne, IsCallSaid, AddsName, IsRightSaid, roomed, array_of}
 use Rattle.rg_raise.proofs.Rows.{means-one, means-two}
 use Rattle.rg_raise.proofs.Telling.{bind-is, bind-none, makes-some, makes-so, refused, one-some, one-refused}
 

@@ -1,33 +1,26 @@
 -- Rows of statements, put together from rows of their parts.
-use Rattle.std.proofs.Common.{◌≡◌, ℕ, ◌<◌, Bool as Truth, List, [], ◌∷◌, ◌++◌, All, map, length, Option, Some, None, option_map, slice_get}
-use Rattle.std.proofs.Common.{refl, sym, ◌∙◌, ap, subst, arith}
+use Rattle.std.proofs.Common.{◌≡◌, ℕ, ◌<◌, Bool as Truth, List, [], ◌∷◌, ◌++◌, All, map, length}
+use Rattle.std.proofs.Common.{refl, sym, ◌∙◌, ap, subst}
 use Rattle.std.proofs.lemmas.List.{map-append}
 use Rattle.std.proofs.lemmas.List.Elements.{All-nil, All-push}
-use Rattle.rg_base.proofs.Callers.Lists.{below}
 use Rattle.rg_tree.specs.declared.rows.Span.{Span}
 use Rattle.rg_tree.specs.declared.rows.Path as rows
-use Rattle.rg_tree.specs.declared.rows.CallRow.{CallRow}
-use Rattle.rg_tree.specs.declared.rows.StmtRow.{StmtRow}
-use Rattle.rg_tree.specs.declared.rows.ExprRow.{ExprRow}
-use Rattle.rg_tree.specs.declared.rows.ExprRow.TheVariants as expr_row
 use Rattle.rg_tree.specs.Tree as tree
-use Rattle.rg_tree.specs.Tree.{Name, Variable, Expr, Stmt, Block}
+use Rattle.rg_tree.specs.Tree.{Name, Variable}
 use Rattle.rg_tree.specs.Rows.Tables.{Tables, name_at, numbers_in}
-use Rattle.rg_tree.specs.Rows.RowTrees.{path_of, expr_at, expr_of, call_of, stmt_at, block_over, block_of, program_of}
-use Rattle.rg_tree.specs.Rows.RowsExist.{Holds, IsWithin, IsNameIn, IsPathIn, IsExprNumber, IsExprIn, IsCallIn, IsBlockIn, IsSpanBelow}
+use Rattle.rg_tree.specs.Rows.RowTrees.{path_of, expr_at, call_of, program_of}
+use Rattle.rg_tree.specs.Rows.RowsExist.{Holds, IsWithin, IsNameIn, IsPathIn, IsCallIn, IsSpanBelow}
 use Rattle.rg_tree.specs.Keeps.{Keeps}
-use Rattle.rg_tree.proofs.Callers.{Keeps-same, Keeps-trans, Holds-keeps, IsAbove-Keeps, expr_at-keeps, stmt_at-keeps}
-use Rattle.rg_tree.proofs.Grows.{numbers_in-grows, path_of-grows, IsPathIn-grows}
+use Rattle.rg_tree.proofs.Callers.{Keeps-same, Keeps-trans, Holds-keeps, IsAbove-Keeps}
+use Rattle.rg_tree.proofs.Grows.{numbers_in-grows}
 use Rattle.rg_verify.specs.Naming.{field_name, method_name}
 use Rattle.rg_verify.specs.Raised.{named, path_named}
 use Rattle.rg_tree.specs.Adds.{Extends, Means, Adds}
 use Rattle.rg_raise.specs.Fronts.{AreTrees}
 use Rattle.rg_verify.specs.Statements.{Call}
 use Rattle.rg_verify.specs.Found.{call_named}
-use Rattle.rg_verify.specs.Blocks.{path_in}
-use Rattle.rg_verify.specs.Rows.{AreNames, IsTree}
+use Rattle.rg_verify.specs.Rows.{AreNames}
 use Rattle.rg_raise.specs.Telling.{IsPathTo}
-use Rattle.rg_tree.specs.Rows.RowsExist.{IsStmtNumber}
 use Rattle.rg_tree.proofs.Adding.{extends-by, extends-trans, means-later}
 
 module _ {V A : Type 0} {at : Tables → V → A} {exists : Tables → V → Type 0} where

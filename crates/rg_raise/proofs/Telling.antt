@@ -1,5 +1,5 @@
 -- What is told at an address, put together from what calls made of its parts.
-use Rattle.std.proofs.Common.{◌≡◌, ℕ, suc, ◌+◌, Bool as Truth, List, [], ◌∷◌, map, slice_get, Option, Some, None, Result, Ok, Err}
+use Rattle.std.proofs.Common.{◌≡◌, ℕ, suc, ◌+◌, Bool as Truth, List, map, slice_get, Option, Some, None, Result, Ok, Err}
 use Rattle.std.proofs.Common.{refl, sym, ap, ◌∙◌, subst, arith}
 use Rattle.rg_base.specs.declared.ty.Ty.{Ty}
 use Rattle.rg_tree.specs.declared.rows.Path as rows
@@ -16,7 +16,7 @@ use Rattle.rg_verify.specs.Raised.{Raised, named}
 use Rattle.rg_verify.specs.Statements.{Call, all_used}
 use Rattle.rg_verify.specs.Found.{call_named}
 use Rattle.rg_verify.specs.Signs as signs
-use Rattle.rg_verify.specs.Blocks.{◌>>=◌, ◌>>◌, test, Given, Told, sign, cleared, called}
+use Rattle.rg_verify.specs.Blocks.{◌>>=◌, ◌>>◌, Given, Told, sign, cleared, called}
 use Rattle.rg_raise.specs.Fronts.{AreTrees}
 use Rattle.rg_raise.specs.Telling.{IsPathTo, MakesAs, MakesOne, IsCallSaid}
 

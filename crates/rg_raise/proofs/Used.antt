@@ -1,6 +1,6 @@
 -- What the instructions of fronts use up is what the fronts do; and where the first place ends.
-use Rattle.std.proofs.Common.{◌≡◌, ℕ, zero, suc, ◌+◌, ◌-◌, ◌≤◌, ◌<◌, Bool as Truth, true, false, if◌then◌else◌, List, [], ◌∷◌, ◌++◌, length}
-use Rattle.std.proofs.Common.{map, drop, slice_get, get_or, Option, Some, None, refl, sym, ap, ◌∙◌, subst, append_assoc, arith}
+use Rattle.std.proofs.Common.{◌≡◌, ℕ, zero, suc, ◌+◌, ◌-◌, Bool as Truth, true, false, if◌then◌else◌, List, [], ◌∷◌, ◌++◌, length}
+use Rattle.std.proofs.Common.{map, drop, Option, Some, None, refl, sym, ap, ◌∙◌, subst, append_assoc, arith}
 use Rattle.std.proofs.lemmas.List.{append-nil, drop-drop, length-append}
 use Rattle.rg_base.specs.declared.ty.Ty.{Ty}
 use Rattle.std.proofs.Math.Seq.{drop-append_seam}
@@ -14,11 +14,10 @@ use Rattle.rg_verify.specs.declared.part.Part.{Part}
 use Rattle.rg_verify.specs.Parts.{part_of, Ends}
 use Rattle.rg_verify.specs.Raised.{Raised, number, boolean, nil, path, is_nil, size, element, neg, not, binary, path_ops, holder_ops, ops_of}
 use Rattle.rg_verify.specs.Raised.{Front, expression, object, place, place_ops, front_ops, fronts_ops}
-use Rattle.rg_verify.specs.Raises.{Stand}
 use Rattle.rg_verify.specs.Raising.{raised}
 use Rattle.rg_verify.specs.Statements.{type_at, used_by_path, used}
 use Rattle.rg_verify.specs.Blocks.{sign}
-use Rattle.rg_raise.specs.Uses.{goes_by, value_by, ends_by, iso_slot, and_then, use_at, uses, ends_at, behind_place, used_in}
+use Rattle.rg_raise.specs.Uses.{goes_by, value_by, ends_by, iso_slot, and_then, uses, ends_at, behind_place, used_in}
 use Rattle.rg_verify.proofs.Raises.{raised-stand}
 
 -- what an instruction is that stands in front

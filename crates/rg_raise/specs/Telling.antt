@@ -1,12 +1,11 @@
 -- What calls make of what is told at an address.
-use Rattle.std.specs.Prelude.{◌≡◌, ℕ, ◌+◌, Bool as Truth, List, [], ◌∷◌, All, map, length, Option, Some, None, Result, Ok, Err}
+use Rattle.std.specs.Prelude.{◌≡◌, ℕ, Bool as Truth, List, length, Option, Some, None, Result, Ok, Err}
 use Rattle.rg_tree.specs.declared.rows.Path as rows
-use Rattle.rg_tree.specs.declared.rows.Span.{Span}
 use Rattle.rg_tree.specs.declared.rows.StmtKind as row_kind
 use Rattle.rg_tree.specs.Tree as tree
 use Rattle.rg_tree.specs.Rows.Tables.{Tables, name_at}
-use Rattle.rg_tree.specs.Rows.RowTrees.{call_of, right_of, kind_over, stmt_at, block_of}
-use Rattle.rg_tree.specs.Rows.RowsExist.{IsNameIn, IsStmtNumber, IsCallIn, IsRightIn, IsKindIn, IsBlockIn}
+use Rattle.rg_tree.specs.Rows.RowTrees.{call_of, right_of, kind_over, stmt_at}
+use Rattle.rg_tree.specs.Rows.RowsExist.{IsNameIn, IsCallIn, IsRightIn, IsKindIn}
 use Rattle.rg_tree.specs.Adds.{Extends, Means, Adds}
 use Rattle.rg_code.specs.declared.op.Op.{Op}
 use Rattle.rg_module.specs.Parts.{Parts}
@@ -19,8 +18,8 @@ use Rattle.rg_verify.specs.Raised.{Raised, path_named}
 use Rattle.rg_verify.specs.Rows.{IsPath}
 use Rattle.rg_verify.specs.Statements as statements
 use Rattle.rg_verify.specs.Statements.{Call, Right, Kind, declare, assign, write, write_element, call, swap, branch, while}
-use Rattle.rg_verify.specs.Statements.{enter, enter_field, print, collect, return, Block}
-use Rattle.rg_verify.specs.Found.{call_named, right_named, kind_named, block_named}
+use Rattle.rg_verify.specs.Statements.{enter, enter_field, print, collect, return}
+use Rattle.rg_verify.specs.Found.{call_named, right_named, kind_named}
 use Rattle.rg_verify.specs.Signs.{behind_of}
 use Rattle.rg_verify.specs.Blocks.{◌>>=◌, test, Given, Told, sign, is_room, paces}
 use Rattle.rg_raise.specs.declared.said.CallSaid.{CallSaid}

@@ -1,4 +1,4 @@
-use Rattle.std.proofs.Common.{length, List, sym, ◌∙◌, subst, Some, arith}
+use Rattle.std.proofs.Common.{List, sym, subst, Some, arith}
 use Rattle.std.proofs.lemmas.Bool.Decides.{nat_tests}
 use Rattle.rg_verify.specs.declared.front.FrontRow.{FrontRow}
 use Rattle.rg_raise.specs.Fronts.{TakesFront}

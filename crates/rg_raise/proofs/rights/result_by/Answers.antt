@@ -1,4 +1,4 @@
-use Rattle.std.proofs.Common.{sym, ◌∙◌, ap}
+use Rattle.std.proofs.Common.{sym}
 use Rattle.std.proofs.lemmas.Result.{err_from_is_err_and}
 use Rattle.rg_verify.specs.Blocks.{values_in, result_by}
 use Rattle.rg_raise.specs.Telling.{given, IsRightSaid}

@@ -1,4 +1,4 @@
-use Rattle.std.proofs.Common.{sym, ◌∙◌, arith}
+use Rattle.std.proofs.Common.{sym, arith}
 use Rattle.rg_raise.proofs.Using.{passing-end, passing-found, passing-on}
 use Rattle.rg_raise.proofs.uses.behind_place.Goals as goal
 
