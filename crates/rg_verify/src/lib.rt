@@ -23,12 +23,14 @@ mod rows;
 mod signs;
 mod stack;
 
+pub use body::Body;
 pub use callee::Callee;
 pub use expressions::raise_expressions;
 pub use front::FrontRow;
 pub use laws::{
     blocks_have_their_code, expressions_stand_once, raised_blocks_stand, raised_have_their_code,
 };
-pub use part::{Junction, Part};
+pub use part::{Junction, Part, part_of};
 pub use refusal::Refusal;
+pub use rows::{add_name, path_row};
 pub use signs::{Behind, Close, Leave, Making, Open, Target, Walk};
