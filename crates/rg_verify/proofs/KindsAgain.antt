@@ -19,13 +19,13 @@ use Rattle.rg_verify.specs.Statements.{enter_field, print, collect, return, Else
 use Rattle.rg_verify.specs.Statements.{types_inside, whole_ops, call_ops, right_ops, pace_ops, assign_op, leave_op, kind_ops, block_ops}
 use Rattle.rg_verify.specs.Signs.{target_of, close_of, open_of, walk_of, behind_of, mark_of, put_of, put_element_of, jump_of, end_of, leave_of}
 use Rattle.rg_verify.specs.Signs.{left_of, closing_of}
-use Rattle.rg_verify.specs.Blocks.{Given, sign, slot_type, fronts_at, right_behind, paces, paced, stored, taken_by}
-use Rattle.rg_verify.specs.Blocks.{taken, dropped, call_by, object_by, ended, Inner, otherwise_told, jumped, tested}
+use Rattle.rg_verify.specs.Blocks.{◌>>=◌, Given, sign, slot_type, fronts_at, right_behind, paces, paced, stored, taken_by}
+use Rattle.rg_verify.specs.Blocks.{taken, dropped, call_by, written_to, element_written, object_by, ended, Inner, otherwise_told, jumped, tested}
 use Rattle.rg_verify.specs.Blocks.{close_by, window_end, window, expr_by, open_by, kind_by, kind_told, is_last, Piece}
 use Rattle.rg_verify.specs.Standing.{IsCallee, IsRightFit, type_mapped, IsBlockFit, IsKindFit, returns, Closes, BlockStand}
 use Rattle.rg_verify.proofs.Pieces.{target_op, piece-nil, piece-then, piece-parts, piece-is}
 use Rattle.rg_verify.proofs.Reading.{bind-is, then-is, test-is, same-is, first, behind, past, past-two, stays, marked, fronts-told, ended-told}
-use Rattle.rg_verify.proofs.RightsAgain.{fronts_of, right-pieces, after-ends, right-told, written-told, whole-by, called-by, right-taken}
+use Rattle.rg_verify.proofs.RightsAgain.{after_ops, fronts_of, right-pieces, after-ends, right-told, written-told, whole-by, called-by, right-taken}
 use Rattle.rg_verify.proofs.RightsAgain.{paced-told}
 
 -- what takes a value stands behind it, and is nothing else
@@ -101,11 +101,11 @@ module _ (g : Given) where
   mapped : (at slot : ℕ) (t : Ty) → IsMark g at → type_mapped g.maps at slot ≡ Some t → slot_type g.ops g.maps at slot ≡ Some t
   mapped at slot t m h = then-is (sign mark_of g.ops at) (type_mapped g.maps at slot) m.0 m.1 ∙ h
 
-  taken-told : (types : List Ty) (r : Right) (at end : ℕ) (u : Target) (k : Kind) → sign target_of g.ops at ≡ Some u
-      → Piece g.ops (suc at) (pace_ops r) end → taken_by g types r end u ≡ Some k → taken g types r at ≡ Some (k, end)
-  taken-told types r at end u k t p h =
+  taken-reached : (types : List Ty) (r : Right) (at end : ℕ) (u : Target) → sign target_of g.ops at ≡ Some u
+      → Piece g.ops (suc at) (pace_ops r) end
+      → taken g types r at ≡ ◌>>=◌ {B = Kind × ℕ} (taken_by g types r end u) (λ (k : Kind). Some (k, end))
+  taken-reached types r at end u t p =
       bind-is (sign target_of g.ops at) _ u t ∙ bind-is (paced g.ops (paces r) (suc at)) _ end (paced-told g types r (suc at) end p)
-      ∙ bind-is (taken_by g types r end u) _ k h
 
   -- a variable that is there is assigned
   assigned : (types : List Ty) (r : Right) (s end : ℕ) → (s ≡ length types → ⊥)
@@ -146,27 +146,28 @@ module _ (g : Given) where
   -- A statement of a line whose mark stands at `start`, and whose code ends at `fin`
 
   module _ (types : List Ty) (inner : Inner) (line start fin : ℕ) where
-    abbrev Told_as : Kind → Type 0
+    abbrev pub Told_as : Kind → Type 0
     Told_as k = kind_told g inner types line start ≡ Some (k, fin)
 
-    abbrev Stands : Kind → Type 0
+    abbrev pub Stands : Kind → Type 0
     Stands k = Piece g.ops start (kind_ops types start line k) fin
 
-    one : start + 1 ≡ suc start
+    pub one : start + 1 ≡ suc start
     one = omega arith
 
-    from-mark : (tail : ℕ → List Op) → Piece g.ops start (i.Mark line ∷ tail (start + 1)) fin → Piece g.ops (suc start) (tail (suc start)) fin
+    pub from-mark : (tail : ℕ → List Op) → Piece g.ops start (i.Mark line ∷ tail (start + 1)) fin → Piece g.ops (suc start) (tail (suc start)) fin
     from-mark tail p = subst (λ (n : ℕ). Piece g.ops (suc start) (tail n) fin) one (behind p)
 
-    told-by : (fs : List Front) (mid : ℕ) → Piece g.ops (suc start) (fronts_ops (suc start) fs) mid → sign part_of g.ops mid ≡ None
+    pub told-by : (fs : List Front) (mid : ℕ) → Piece g.ops (suc start) (fronts_ops (suc start) fs) mid → sign part_of g.ops mid ≡ None
         → kind_told g inner types line start ≡ kind_by g inner types line start fs mid
     told-by fs mid p e = bind-is (fronts_at g.ops (suc start)) _ (fs, mid) (fronts-told fs (suc start) mid p e)
 
     -- Those without blocks
 
-    slot-told : (r : Right) (u : Target) (k : Kind) → IsRightFit g.methods r → taken_by g types r fin u ≡ Some k
-        → Piece g.ops (suc start) (right_ops types (suc start) r ++ target_op u ∷ pace_ops r) fin → Told_as k
-    slot-told r u k h t p =
+    pub slot-reached : (r : Right) (u : Target) → IsRightFit g.methods r
+        → Piece g.ops (suc start) (right_ops types (suc start) r ++ target_op u ∷ pace_ops r) fin
+        → kind_told g inner types line start ≡ ◌>>=◌ {B = Kind × ℕ} (taken_by g types r fin u) (λ (k : Kind). Some (k, fin))
+    slot-reached r u h p =
         let code = right_ops types (suc start) r in
         let end : ℕ = suc start + length code in
         let mid : ℕ = suc start + length (fronts_ops (suc start) (fronts_of r)) in
@@ -175,7 +176,11 @@ module _ (g : Given) where
         let q = taking g end fin u (pace_ops r) tail in
         told-by (fronts_of r) mid front (after-ends g types mid end r after q.part)
         ∙ right-taken g types mid end inner line start r u h after q.walk q.close q.target
-        ∙ taken-told types r end fin u k q.target (behind tail) t
+        ∙ taken-reached types r end fin u q.target (behind tail)
+
+    slot-told : (r : Right) (u : Target) (k : Kind) → IsRightFit g.methods r → taken_by g types r fin u ≡ Some k
+        → Piece g.ops (suc start) (right_ops types (suc start) r ++ target_op u ∷ pace_ops r) fin → Told_as k
+    slot-told r u k h t p = slot-reached r u h p ∙ bind-is (taken_by g types r fin u) _ k t
 
     declare-told : (t : Ty) (r : Right) → IsKindFit g types start line (declare t r) → IsMark g fin → Stands (declare t r) → Told_as (declare t r)
     declare-told t r (h, m) mark p =
@@ -192,8 +197,10 @@ module _ (g : Given) where
         (piece-is g.ops (ap (λ (o : Op). right_ops types (suc start) r ++ o ∷ pace_ops r) is)
         (from-mark (λ (n : ℕ). right_ops types n r ++ assign_op types s ∷ pace_ops r) p))
 
-    write-told : (s : ℕ) (ks : List ℕ) (k : ℕ) (r : Right) → IsRightFit g.methods r → Stands (write s ks k r) → Told_as (write s ks k r)
-    write-told s ks k r h p =
+    pub write-reached : (s : ℕ) (ks : List ℕ) (k : ℕ) (r : Right) → Stands (write s ks k r)
+        → (mid : ℕ) × (end : ℕ) × Piece g.ops mid (after_ops types r) end × Piece g.ops end (i.Put k ∷ pace_ops r) fin
+        × (kind_told g inner types line start ≡ written_to g types s ks (fronts_of r) mid)
+    write-reached s ks k r p =
         let holder = holder_ops s ks in
         let at : ℕ = suc start + length holder in
         let code = right_ops types at r in
@@ -202,16 +209,27 @@ module _ (g : Given) where
         let q = from-mark (λ (n : ℕ). holder ++ (right_ops types (n + length holder) r ++ i.Put k ∷ pace_ops r)) p in
         let (object_there, rest) = piece-parts g.ops (suc start) fin holder (code ++ i.Put k ∷ pace_ops r) q in
         let (right, tail) = piece-parts g.ops at fin code (i.Put k ∷ pace_ops r) rest in
-        let (front, after) = right-pieces g types r at end right in
-        told-by (object s ks ∷ fronts_of r) mid (piece-then g.ops object_there front) (after-ends g types mid end r after (first _ tail))
-        ∙ written-told g types mid end s ks r after (first _ tail)
+        let (front, after) = right-pieces g types r at end right in (
+          mid,
+          end,
+          after,
+          tail,
+          told-by (object s ks ∷ fronts_of r) mid (piece-then g.ops object_there front) (after-ends g types mid end r after (first _ tail))
+              ∙ written-told g types mid end s ks r after (first _ tail),
+        )
+
+    write-told : (s : ℕ) (ks : List ℕ) (k : ℕ) (r : Right) → IsRightFit g.methods r → Stands (write s ks k r) → Told_as (write s ks k r)
+    write-told s ks k r h p =
+        let (mid, end, after, tail, reached) = write-reached s ks k r p in
+        reached
         ∙ bind-is (right_behind g types (fronts_of r) mid) _ (r, end) (right-told g types mid end r h after (first _ tail))
         ∙ bind-is (sign put_of g.ops end) _ k (first _ tail)
         ∙ bind-is (paced g.ops (paces r) (suc end)) _ fin (paced-told g types r (suc end) fin (behind tail))
 
-    element-told : (s : ℕ) (ks : List ℕ) (e : Raised) (r : Right) → IsRightFit g.methods r → Stands (write_element s ks e r)
-        → Told_as (write_element s ks e r)
-    element-told s ks e r h p =
+    pub element-reached : (s : ℕ) (ks : List ℕ) (e : Raised) (r : Right) → Stands (write_element s ks e r)
+        → (mid : ℕ) × (end : ℕ) × Piece g.ops mid (after_ops types r) end × Piece g.ops end (i.PutElement ∷ pace_ops r) fin
+        × (kind_told g inner types line start ≡ element_written g types s ks e (fronts_of r) mid)
+    element-reached s ks e r p =
         let array = place_ops (suc start) s ks e in
         let at : ℕ = suc start + length array in
         let code = right_ops types at r in
@@ -220,25 +238,43 @@ module _ (g : Given) where
         let q = from-mark (λ (n : ℕ). place_ops n s ks e ++ (right_ops types (n + length (place_ops n s ks e)) r ++ i.PutElement ∷ pace_ops r)) p in
         let (place_there, rest) = piece-parts g.ops (suc start) fin array (code ++ i.PutElement ∷ pace_ops r) q in
         let (right, tail) = piece-parts g.ops at fin code (i.PutElement ∷ pace_ops r) rest in
-        let (front, after) = right-pieces g types r at end right in
-        told-by (place s ks e ∷ fronts_of r) mid (piece-then g.ops place_there front) (after-ends g types mid end r after (first _ tail))
+        let (front, after) = right-pieces g types r at end right in (
+          mid,
+          end,
+          after,
+          tail,
+          told-by (place s ks e ∷ fronts_of r) mid (piece-then g.ops place_there front) (after-ends g types mid end r after (first _ tail)),
+        )
+
+    element-told : (s : ℕ) (ks : List ℕ) (e : Raised) (r : Right) → IsRightFit g.methods r → Stands (write_element s ks e r)
+        → Told_as (write_element s ks e r)
+    element-told s ks e r h p =
+        let (mid, end, after, tail, reached) = element-reached s ks e r p in
+        reached
         ∙ bind-is (right_behind g types (fronts_of r) mid) _ (r, end) (right-told g types mid end r h after (first _ tail))
         ∙ then-is (sign put_element_of g.ops end) _ tt (first _ tail)
         ∙ bind-is (paced g.ops (paces r) (suc end)) _ fin (paced-told g types r (suc end) fin (behind tail))
 
-    call-told : (c : Call) → IsCallee g.methods c.callee → IsMark g fin → Stands (call c) → Told_as (call c)
-    call-told c h mark p =
+    pub call-parts : (c : Call) (os : List Op) → Piece g.ops (suc start) (call_ops types (suc start) c ++ os) fin
+        → (mid : ℕ) × (end : ℕ) × Piece g.ops mid (after_ops types (result_of c)) end × Piece g.ops end os fin
+        × (kind_told g inner types line start ≡ kind_by g inner types line start (fronts_of (result_of c)) mid)
+    call-parts c os p =
         let code = call_ops types (suc start) c in
         let end : ℕ = suc start + length code in
         let mid : ℕ = suc start + length (fronts_ops (suc start) (fronts_of (result_of c))) in
-        let q = from-mark (λ (n : ℕ). call_ops types n c ++ dropped_code c.callee.result) p in
-        let (right, tail) = piece-parts g.ops (suc start) fin code (dropped_code c.callee.result) q in
+        let (right, tail) = piece-parts g.ops (suc start) fin code os p in
         let (front, after) = right-pieces g types (result_of c) (suc start) end right in
-        let (none, drops) = dropped-told c.callee.result end fin tail mark in
-        told-by (fronts_of (result_of c)) mid front (first _ after)
+        (mid, end, after, tail, told-by (fronts_of (result_of c)) mid front (first _ after))
+
+    call-told : (c : Call) → IsCallee g.methods c.callee → IsMark g fin → Stands (call c) → Told_as (call c)
+    call-told c h mark p =
+        let drops = dropped_code c.callee.result in
+        let (mid, end, after, tail, reached) = call-parts c drops (from-mark (λ (n : ℕ). call_ops types n c ++ drops) p) in
+        let (none, is) = dropped-told c.callee.result end fin tail mark in
+        reached
         ∙ called-by g types mid end inner line start c h after
         ∙ ap (call_by g types c end) none
-        ∙ bind-is (dropped g.ops c.callee.result end) _ fin drops
+        ∙ bind-is (dropped g.ops c.callee.result end) _ fin is
 
     swap-told : (y s : ℕ) (ks : List ℕ) (k : ℕ) → Stands (swap y s ks k) → Told_as (swap y s ks k)
     swap-told y s ks k p =
@@ -289,13 +325,13 @@ module _ (g : Given) where
     -- Those with a test
 
     module _ (e : Raised) where
-      abbrev inside : ℕ
+      abbrev pub inside : ℕ
       inside = start + 1 + length (whole_ops types (start + 1) e) + 1
 
-      abbrev Tested : (to : ℕ) → List Op → Type 0
+      abbrev pub Tested : (to : ℕ) → List Op → Type 0
       Tested to tail = Piece g.ops start (i.Mark line ∷ (whole_ops types (start + 1) e ++ i.JumpFalse to ∷ tail)) fin
 
-      test-told : (to : ℕ) (tail : List Op) → Tested to tail
+      pub test-told : (to : ℕ) (tail : List Op) → Tested to tail
           → (kind_told g inner types line start ≡ tested g inner types line start e to inside) × Piece g.ops inside tail fin
       test-told to tail p =
           let code = whole_ops types (suc start) e in
@@ -419,38 +455,66 @@ module _ (g : Given) where
         ∙ bind-is (inner within at) _ (b, end) (tells within at end stand)
         ∙ bind-is (window_end g.ops line n end) _ (w, fin) (left-told end fin w ends)
 
+    -- the code of a window, from its block on
+    abbrev pub window_ops : (at c : ℕ) → Block → Option ℕ → List Op
+    window_ops at c b w = block_ops (types_inside types c) at b ++ i.Mark line ∷ leave_op (length types) w ∷ []
+
+    pub enter-reached : (s c : ℕ) (b : Block) (w : Option ℕ) → Stands (enter s c b w)
+        → Piece g.ops (start + 1 + 1) (window_ops (start + 1 + 1) c b w) fin
+        × (kind_told g inner types line start ≡ ◌>>=◌ {B = Kind × ℕ} (window g inner types line (length types) (start + 1 + 1))
+        (λ (x : (ℕ × Block × Option ℕ) × ℕ). Some (enter s x.0.0 x.0.1 x.0.2, x.1)))
+    enter-reached s c b w p =
+        let at : ℕ = start + 1 + 1 in
+        let q = behind p in
+        let there : suc (suc start) ≡ at = omega arith in (
+          subst (λ (m : ℕ). Piece g.ops m (window_ops at c b w) fin) there (behind q),
+          told-by [] (suc start) (piece-nil g.ops (suc start)) (first _ q)
+              ∙ ap (open_by g inner types line (suc start)) (first open_of q)
+              ∙ ap (λ (m : ℕ). ◌>>=◌ {B = Kind × ℕ} (window g inner types line (length types) m)
+              (λ (x : (ℕ × Block × Option ℕ) × ℕ). Some (enter s x.0.0 x.0.1 x.0.2, x.1))) there,
+        )
+
     enter-told : (s c : ℕ) (b : Block) (w : Option ℕ) → Tells g inner b → IsKindFit g types start line (enter s c b w) → Stands (enter s c b w)
         → Told_as (enter s c b w)
     enter-told s c b w tells (is, fits) p =
+        let (whole, reached) = enter-reached s c b w p in
+        reached
+        ∙ bind-is (window g inner types line (length types) (start + 1 + 1)) _ ((c, b, w), fin)
+        (window-told c b w (start + 1 + 1) tells fits is whole)
+
+    -- where the block of an `enter` of a field begins
+    abbrev pub behind_field : (s : ℕ) (ks : List ℕ) (k : ℕ) → ℕ
+    behind_field s ks k = start + 1 + length (path_ops s ks ++ i.EnterField k (length types) ∷ [])
+
+    pub field-reached : (s : ℕ) (ks : List ℕ) (k c : ℕ) (b : Block) (w : Option ℕ) → Stands (enter_field s ks k c b w)
+        → Piece g.ops (behind_field s ks k) (window_ops (behind_field s ks k) c b w) fin
+        × (kind_told g inner types line start ≡ ◌>>=◌ {B = Kind × ℕ} (window g inner types line (length types) (behind_field s ks k))
+        (λ (x : (ℕ × Block × Option ℕ) × ℕ). Some (enter_field s ks k x.0.0 x.0.1 x.0.2, x.1)))
+    field-reached s ks k c b w p =
         let n = length types in
-        let at : ℕ = start + 1 + 1 in
-        let tail = block_ops (types_inside types c) at b ++ i.Mark line ∷ leave_op n w ∷ [] in
-        let q = behind p in
-        let there : suc (suc start) ≡ at = omega arith in
-        let whole = subst (λ (m : ℕ). Piece g.ops m tail fin) there (behind q) in
-        told-by [] (suc start) (piece-nil g.ops (suc start)) (first _ q)
-        ∙ ap (open_by g inner types line (suc start)) (first open_of q)
-        ∙ bind-is (window g inner types line n (suc (suc start))) _ ((c, b, w), fin)
-        (ap (window g inner types line n) there ∙ window-told c b w at tells fits is whole)
+        let code = path_ops s ks in
+        let front = code ++ i.EnterField k n ∷ [] in
+        let at : ℕ = behind_field s ks k in
+        let mid : ℕ = suc start + length code in
+        let tail = window_ops at c b w in
+        let (enters, rest) = piece-parts g.ops (suc start) fin front tail (behind p) in
+        let (path_there, op) = piece-parts g.ops (suc start) (suc start + length front) code (i.EnterField k n ∷ []) enters in
+        let same : suc start + length front ≡ at = omega arith in
+        let there : suc mid ≡ at = past op ∙ same in (
+          subst (λ (m : ℕ). Piece g.ops m tail fin) same rest,
+          told-by (expression (path s ks) ∷ []) mid (piece-is g.ops (sym (append-nil code)) path_there) (first _ op)
+              ∙ ap (expr_by g inner types line start (path s ks) mid) (first walk_of op)
+              ∙ ap (λ (m : ℕ). ◌>>=◌ {B = Kind × ℕ} (window g inner types line n m)
+              (λ (x : (ℕ × Block × Option ℕ) × ℕ). Some (enter_field s ks k x.0.0 x.0.1 x.0.2, x.1))) there,
+        )
 
     field-told : (s : ℕ) (ks : List ℕ) (k c : ℕ) (b : Block) (w : Option ℕ) → Tells g inner b
         → IsKindFit g types start line (enter_field s ks k c b w) → Stands (enter_field s ks k c b w) → Told_as (enter_field s ks k c b w)
     field-told s ks k c b w tells (is, fits) p =
-        let n = length types in
-        let code = path_ops s ks in
-        let front = code ++ i.EnterField k n ∷ [] in
-        let at : ℕ = start + 1 + length front in
-        let mid : ℕ = suc start + length code in
-        let tail = block_ops (types_inside types c) at b ++ i.Mark line ∷ leave_op n w ∷ [] in
-        let (enters, rest) = piece-parts g.ops (suc start) fin front tail (behind p) in
-        let (path_there, op) = piece-parts g.ops (suc start) (suc start + length front) code (i.EnterField k n ∷ []) enters in
-        let same : suc start + length front ≡ at = omega arith in
-        let there : suc mid ≡ at = past op ∙ same in
-        let whole = subst (λ (m : ℕ). Piece g.ops m tail fin) same rest in
-        told-by (expression (path s ks) ∷ []) mid (piece-is g.ops (sym (append-nil code)) path_there) (first _ op)
-        ∙ ap (expr_by g inner types line start (path s ks) mid) (first walk_of op)
-        ∙ bind-is (window g inner types line n (suc mid)) _ ((c, b, w), fin)
-        (ap (window g inner types line n) there ∙ window-told c b w at tells fits is whole)
+        let (whole, reached) = field-reached s ks k c b w p in
+        reached
+        ∙ bind-is (window g inner types line (length types) (behind_field s ks k)) _ ((c, b, w), fin)
+        (window-told c b w (behind_field s ks k) tells fits is whole)
 
     -- All of them; behind a statement that isn't the last one a mark stands
 

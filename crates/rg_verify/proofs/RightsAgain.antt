@@ -19,7 +19,7 @@ use Rattle.rg_verify.specs.Parts.{part_of}
 use Rattle.rg_verify.specs.Statements.{Call, Right, value, new, new_tmp, new_iso, freeze, merge, read, more, result_of, used, all_used, new_ops}
 use Rattle.rg_verify.specs.Statements.{right_ops, pace_ops}
 use Rattle.rg_verify.specs.Signs.{making_of, target_of, close_of, open_of, walk_of, behind_of, call_of, pace_of}
-use Rattle.rg_verify.specs.Blocks.{Given, sign, cleared, called, right_of, right_by, result_by, right_behind, paces}
+use Rattle.rg_verify.specs.Blocks.{◌>>=◌, Given, sign, cleared, called, right_of, right_by, result_by, right_behind, paces}
 use Rattle.rg_verify.specs.Blocks.{paced, taken, call_by, written_to, room_by, object_by, Inner, close_by, expr_by, open_by, kind_by, Piece}
 use Rattle.rg_verify.specs.Standing.{IsCallee, IsRightFit}
 use Rattle.rg_verify.proofs.Pieces.{piece-parts, piece-is}
@@ -177,11 +177,17 @@ module _ (g : Given) (types : List Ty) where
           ∙ bind-is (cleared g.ops (all_used types (e ∷ [])) mid) _ end (whole-cleared mid end e p)
 
       -- a call
+      pub call-reached : (c : Call) → Piece g.ops mid (after_ops types (result_of c)) end
+          → kind_by g inner types line start (fronts_of (result_of c)) mid
+          ≡ ◌>>=◌ (called g types c.slot c.fields c.args (suc mid)) (λ (x : Call × ℕ). call_by g types x.0 x.1 (sign target_of g.ops x.1))
+      call-reached c p =
+          ap (object_by g types c.slot c.fields (map expression c.args) mid) (first _ p)
+          ∙ ap (λ (args : Option (List Raised)). room_by g types c.slot c.fields (map expression c.args) args mid) (values-told c.args)
+
       pub called-by : (c : Call) → IsCallee g.methods c.callee → Piece g.ops mid (after_ops types (result_of c)) end
           → kind_by g inner types line start (fronts_of (result_of c)) mid ≡ call_by g types c end (sign target_of g.ops end)
       called-by c h p =
-          ap (object_by g types c.slot c.fields (map expression c.args) mid) (first _ p)
-          ∙ ap (λ (args : Option (List Raised)). room_by g types c.slot c.fields (map expression c.args) args mid) (values-told c.args)
+          call-reached c p
           ∙ bind-is (called g types c.slot c.fields c.args (suc mid)) _ (c, end) (called-told c (suc mid) end h (behind p))
 
       -- a right side that goes into a slot

@@ -1,6 +1,6 @@
 -- Blocks that stand in code, by what they are and the code alone, however they are found (docs/architecture.md, "Modules").
 use Rattle.std.specs.Prelude.{◌≡◌, ℕ, suc, ◌+◌, ◌≤◌, max, Bool as Truth, true, false, if◌then◌else◌, List, ◌∷◌, [], ◌++◌, length, slice_get}
-use Rattle.std.specs.Prelude.{Option, Some, option_map}
+use Rattle.std.specs.Prelude.{Option, Some, None, option_map}
 use Rattle.rg_base.specs.declared.words.Cap.TheVariants as cap
 use Rattle.rg_base.specs.declared.ty.Ty.{Ty}
 use Rattle.rg_base.specs.declared.ty.Ty.TheVariants as ty
@@ -12,7 +12,7 @@ use Rattle.rg_verify.specs.Statements.{Right, value, new, new_tmp, new_iso, free
 use Rattle.rg_verify.specs.Statements.{write_element, call, swap, branch, while, enter, enter_field, print, collect, return, Else, no_else, otherwise}
 use Rattle.rg_verify.specs.Statements.{Block, empty, next, types_behind, types_inside, whole_ops, kind_ops, block_ops}
 use Rattle.rg_verify.specs.Signs.{mark_of, closing_of}
-use Rattle.rg_verify.specs.Blocks.{◌>>=◌, Given, sign, is_last, block_told, Piece}
+use Rattle.rg_verify.specs.Blocks.{◌>>=◌, Given, Told, sign, is_last, block_told, Piece}
 
 -- How many blocks stand in one another
 
@@ -130,3 +130,15 @@ abbrev pub BlocksStandOnce : Type 0
 BlocksStandOnce =
     (g : Given) (types : List Ty) (at : ℕ) (b c : Block) (m n : ℕ) → BlockStand g types at b m → BlockStand g types at c n
     → (b ≡ c) × (m ≡ n)
+
+-- What raising tells at an address: a block of no more blocks in one another than may be, which stands there if it ends there, and no other
+-- one does; or none of such a depth stands there.
+abbrev pub TellsBlock : Given → (depth : ℕ) → (types : List Ty) → (at : ℕ) → Told Block → Type 0
+TellsBlock g depth types at None = (b : Block) (end : ℕ) → BlockStand g types at b end → block_depth b ≤ depth → ⊥
+TellsBlock g depth types at (Some x) =
+    (block_depth x.0 ≤ depth) × (Closes g.ops x.1 (returns x.0) → BlockStand g types at x.0 x.1)
+    × ((b : Block) (end : ℕ) → BlockStand g types at b end → block_depth b ≤ depth → (b ≡ x.0) × (end ≡ x.1))
+
+-- so does the definition
+abbrev pub BlocksAreTold : Type 0
+BlocksAreTold = (g : Given) (depth : ℕ) (types : List Ty) (at : ℕ) → TellsBlock g depth types at (block_told g depth types at)

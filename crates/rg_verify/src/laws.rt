@@ -4,7 +4,7 @@
 ghost use Rattle.rg_verify.specs.Blocks.{RaisedBlocksStand};
 ghost use Rattle.rg_verify.specs.Found.{BlocksHaveTheirCode};
 ghost use Rattle.rg_verify.specs.Raises.{StandOnce, HaveTheirCode};
-ghost use Rattle.rg_verify.specs.Standing.{BlocksStandOnce, StandingBlocksAreTold};
+ghost use Rattle.rg_verify.specs.Standing.{BlocksAreTold, BlocksStandOnce, StandingBlocksAreTold};
 
 /// Instructions begin with the code of at most one list of expressions, objects and places.
 pub fn expressions_stand_once()
@@ -34,4 +34,9 @@ pub fn standing_blocks_are_told()
 /// At most one block stands at an address.
 pub fn blocks_stand_once()
     ensures { BlocksStandOnce }
+{}
+
+/// What raising tells at an address is the block that stands there, or none does.
+pub fn blocks_are_told()
+    ensures { BlocksAreTold }
 {}
