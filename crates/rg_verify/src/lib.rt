@@ -28,7 +28,8 @@ pub use callee::Callee;
 pub use expressions::raise_expressions;
 pub use front::FrontRow;
 pub use laws::{
-    blocks_have_their_code, expressions_stand_once, raised_blocks_stand, raised_have_their_code,
+    blocks_are_told, blocks_have_their_code, blocks_stand_once, expressions_stand_once,
+    raised_blocks_stand, raised_have_their_code, standing_blocks_are_told,
 };
 pub use part::{Junction, Part, part_of};
 pub use refusal::Refusal;
