@@ -405,6 +405,22 @@ choice-stands = record {
   closes = ((9, refl), refl);
 }
 
+-- the map in front of a window's block has the class of the bridge
+giving-stands : BlockStand (record {
+  ops = giving_ops ++ i.Mark 1 ∷ i.End 0 ∷ i.Halt ∷ [];
+  maps = [] ∷ [] ∷ [] ∷ (iso ∷ []) ∷ [] ∷ (iso ∷ mut ∷ []) ∷ [] ∷ [] ∷ [] ∷ (iso ∷ mut ∷ mut ∷ []) ∷ [];
+  methods = [];
+}) [] 0 giving 11
+giving-stands = record {
+  code = record { parts = refl; place = refl };
+  fits = (
+    (tt, refl),
+    (λ e. absurd (false≢true e)),
+    ((refl, ((tt, refl), (λ e. absurd (false≢true e)), tt)), (λ e. absurd (false≢true e)), tt),
+  );
+  closes = ((1, refl), refl);
+}
+
 depths : (block_depth empty ≡ 1) × (block_depth loop ≡ 2) × (block_depth choice ≡ 2)
 depths = (refl, refl, refl)
 
