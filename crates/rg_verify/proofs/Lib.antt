@@ -23,4 +23,4 @@ mod Reading
 mod RightsAgain
 mod KindsAgain
 mod BlocksAgain
-mod ToldStands
+pub mod ToldStands

@@ -360,6 +360,9 @@ module _ (g : Given) where
         Within at c b =
             ((type_mapped g.maps at (length types) ≡ Some (ty.Ref cap.Mut c)) × IsBlockFit g (types_inside types c) at b) × (block_depth b ≤ d)
 
+        window-as : (at : ℕ) (made x : (ℕ × Block × Option ℕ) × ℕ) → Some made ≡ Some x → Within at made.0.0 made.0.1 → Within at x.0.0 x.0.1
+        window-as at made x e good = subst (λ (y : (ℕ × Block × Option ℕ) × ℕ). Within at y.0.0 y.0.1) (same_Some made x e) good
+
         window-fit : (at : ℕ) (x : (ℕ × Block × Option ℕ) × ℕ) → window g inner types line (length types) at ≡ Some x → Within at x.0.0 x.0.1
         window-fit at x h =
             let n = length types in
@@ -370,9 +373,7 @@ module _ (g : Given) where
             let (w, we, h5) = bind-some (window_end g.ops line n b.1) _ x h4 in
             let (l, le, m) = then-some (sign mark_of g.ops at) (type_mapped g.maps at n) t te in
             let (fits, deep) = fit (types_inside types c) at b.0 b.1 be in
-            let made : (ℕ × Block × Option ℕ) × ℕ = ((c, b.0, w.0), w.1) in
-            let good : Within at made.0.0 made.0.1 = ((m ∙ ap Some (bridge-is t c ce), fits), deep) in
-            subst (λ (y : (ℕ × Block × Option ℕ) × ℕ). Within at y.0.0 y.0.1) (same_Some made x h5) good
+            window-as at ((c, b.0, w.0), w.1) x h5 ((m ∙ ap Some (bridge-is t c ce), fits), deep)
 
         within-as : (at c a : ℕ) (b x : Block) → (a ≡ c) × (x ≡ b) → Within at a x → Within at c b
         within-as at c a b x (same_class, same_block) good =

@@ -131,14 +131,14 @@ BlocksStandOnce =
     (g : Given) (types : List Ty) (at : ℕ) (b c : Block) (m n : ℕ) → BlockStand g types at b m → BlockStand g types at c n
     → (b ≡ c) × (m ≡ n)
 
--- What raising tells at an address: a block of no more blocks in one another than may be, which stands there if it ends there, and no other
--- one does; or none of such a depth stands there.
+-- What is told at an address. A block: it is no deeper than may be, stands there if it ends there, and no other one that isn't deeper does.
+-- Or nothing: no block that isn't deeper stands there.
 abbrev pub TellsBlock : Given → (depth : ℕ) → (types : List Ty) → (at : ℕ) → Told Block → Type 0
 TellsBlock g depth types at None = (b : Block) (end : ℕ) → BlockStand g types at b end → block_depth b ≤ depth → ⊥
 TellsBlock g depth types at (Some x) =
     (block_depth x.0 ≤ depth) × (Closes g.ops x.1 (returns x.0) → BlockStand g types at x.0 x.1)
     × ((b : Block) (end : ℕ) → BlockStand g types at b end → block_depth b ≤ depth → (b ≡ x.0) × (end ≡ x.1))
 
--- so does the definition
+-- that is what the definition of raising tells
 abbrev pub BlocksAreTold : Type 0
 BlocksAreTold = (g : Given) (depth : ℕ) (types : List Ty) (at : ℕ) → TellsBlock g depth types at (block_told g depth types at)
