@@ -62,7 +62,7 @@ fn is_as_said(alloc: Global, ops: &[Op], wanted: Option<(usize, usize)>) -> Resu
     let mut program = Program::new(alloc);
     match raise_expressions(alloc, &mut program, true, &code, 0) {
         Ok((rows, end)) => Ok(wanted == Some((rows.len(), end))),
-        Err(Refusal::NotExpression) => Ok(wanted == None),
+        Err(Refusal::NotRaised) => Ok(wanted == None),
         Err(Refusal::Memory) => Err(Memory),
     }
 }

@@ -151,7 +151,7 @@ module _ (g : Given) where
       subst (λ (n : ℕ). Piece g.ops at (dropped_code (Some t)) n) (same_Some _ _ h2)
       (piece-is g.ops (left-code (is_iso t) owns is) (sign-piece g left-is at owns there))
 
-  ended-piece : {of : Op → Option ℕ} {op : ℕ → Op} → ((o : Op) (x : ℕ) → of o ≡ Some x → o ≡ op x) → (line n at end : ℕ)
+  pub ended-piece : {of : Op → Option ℕ} {op : ℕ → Op} → ((o : Op) (x : ℕ) → of o ≡ Some x → o ≡ op x) → (line n at end : ℕ)
       → ended of g.ops line n at ≡ Some end → Piece g.ops at (i.Mark line ∷ op n ∷ []) end
   ended-piece {of = of} {op = op} tells line n at end h =
       let (l, le, h1) = bind-some (sign mark_of g.ops at) _ end h in
@@ -474,14 +474,14 @@ module _ (g : Given) where
       kind-by-piece (object s ks ∷ fs) b end k front h = object-by-piece s ks fs b end k (sign behind_of g.ops b) refl front h
       kind-by-piece (place s ks e ∷ fs) b end k front h = element-piece s ks e fs b end k front h
 
-      kind-piece : (end : ℕ) (k : Kind) → kind_told g inner types line start ≡ Some (k, end) → Stands k end
+      pub kind-piece : (end : ℕ) (k : Kind) → kind_told g inner types line start ≡ Some (k, end) → Stands k end
       kind-piece end k h =
           let (fs, fe, h1) = bind-some (fronts_at g.ops (suc start)) _ (k, end) h in
           kind-by-piece fs.0 fs.1 end k (fronts-piece g (suc start) fs.1 fs.0 fe) h1
 
   -- Blocks
 
-  starts-marked : (at line : ℕ) → starts g.ops at ≡ Some line → sign mark_of g.ops at ≡ Some line
+  pub starts-marked : (at line : ℕ) → starts g.ops at ≡ Some line → sign mark_of g.ops at ≡ Some line
   starts-marked at line h =
       let (l, le, h1) = bind-some (sign mark_of g.ops at) _ line h in
       le ∙ ap Some (by l (sign closing_of g.ops (suc at)) h1)
@@ -524,7 +524,7 @@ module _ (g : Given) where
   statements-piece inner is (suc n) types at b end h =
       block-by-piece inner (statements g inner n) is (statements-piece inner is n) types at (starts g.ops at) b end refl h
 
-  block-piece : (depth : ℕ) → Sound (block_told g depth)
+  pub block-piece : (depth : ℕ) → Sound (block_told g depth)
   unfolding block_told
   block-piece zero types at b end h = absurd cc
   block-piece (suc d) types at b end h =

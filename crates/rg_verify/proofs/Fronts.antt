@@ -55,7 +55,7 @@ indexed-front t m p n (indexed s ks a) (is, index) =
 indexed-front t m p n x is = absurd is
 
 pub wait-front : (t : Tables) (m : Truth) (w : Wait) (x : Item) → IsFor t m (held.Waits w) x
-    → MakesFront t t m (front_in x) (Err refusal.NotExpression)
+    → MakesFront t t m (front_in x) (Err refusal.NotRaised)
 wait-front t m w (waits j a to) is = tt
 wait-front t m w x is = absurd is
 
@@ -77,11 +77,11 @@ module _ (t u : Tables) (m : Truth) (x : Item) where
       by (waits j a to) made = absurd made
 
   pub front-no-row : (f : FrontRow) → ((n : ℕ) → f ≡ front.Expression n → ⊥) → MakesFront t u m (front_in x) (Ok f)
-      → MakesRow t u m x (Err refusal.NotExpression)
+      → MakesRow t u m x (Err refusal.NotRaised)
   front-no-row f other made = by x f other made
     where
       by : (x : Item) (f : FrontRow) → ((n : ℕ) → f ≡ front.Expression n → ⊥) → MakesFront t u m (front_in x) (Ok f)
-          → MakesRow t u m x (Err refusal.NotExpression)
+          → MakesRow t u m x (Err refusal.NotRaised)
       by x (front.Expression n) other made = absurd (other n refl)
       by (tree r) (front.Object p) other made = let e = made.means.is u (Keeps-same u) in absurd cc
       by (tree r) (front.Place p n) other made = let e = made.means.is u (Keeps-same u) in absurd cc
@@ -91,7 +91,7 @@ module _ (t u : Tables) (m : Truth) (x : Item) where
   refused-row e made = by x e made
     where
       by : (x : Item) (e : Refusal) → MakesFront t u m (front_in x) (Err e) → MakesRow t u m x (Err e)
-      by (tree r) refusal.NotExpression made = absurd made
+      by (tree r) refusal.NotRaised made = absurd made
       by (tree r) refusal.Memory made = tt
-      by x refusal.NotExpression made = tt
+      by x refusal.NotRaised made = tt
       by x refusal.Memory made = tt

@@ -1,8 +1,8 @@
--- What was raised from code has that code, and code gives back what has it.
+-- What was raised from code has that code, and code gives back what has it. Those with pub are for crates above.
 mod Settling
 mod Parts
-mod Raises
-mod Again
+pub mod Raises
+pub mod Again
 mod Named
 mod NamedParts
 mod NamedBlocks
@@ -18,4 +18,9 @@ mod Walking
 mod Examples
 mod BlockExamples
 mod Pieces
-mod BlockRaises
+pub mod BlockRaises
+mod Reading
+mod RightsAgain
+mod KindsAgain
+mod BlocksAgain
+pub mod ToldStands

@@ -21,7 +21,8 @@ use Rattle.rg_verify.specs.declared.stack.Query.{Query}
 use Rattle.rg_verify.specs.declared.stack.Query.TheVariants as query
 use Rattle.rg_verify.specs.Raised.{Raised, named, path, path_named}
 use Rattle.rg_verify.specs.Raising.{Item, tree, settle, from_path, from_checked}
-use Rattle.rg_verify.specs.Inner.Adds.{AreNames, AddsTree, IsExprRow}
+use Rattle.rg_verify.specs.Rows.{AreNames}
+use Rattle.rg_verify.specs.Inner.Adds.{AddsTree, IsExprRow}
 use Rattle.rg_verify.specs.Inner.Unaries.{tree_on, row_on}
 use Rattle.rg_verify.specs.Inner.Stacks.{is_path, IsFor, Piled, Makes, TakesPath}
 use Rattle.rg_verify.proofs.Row.{names-none, names-push}
@@ -31,7 +32,7 @@ use Rattle.rg_verify.proofs.Put.{Settles, makes-behind}
 -- The topmost path
 
 module _ (t : Tables) (m : Truth) (news : List Held) (items : List Item) where
-  pub takes-no-path : (hs : List Held) → length hs ≡ 0 → Piled t m hs items → TakesPath t m news items (Err refusal.NotExpression)
+  pub takes-no-path : (hs : List Held) → length hs ≡ 0 → Piled t m hs items → TakesPath t m news items (Err refusal.NotRaised)
   takes-no-path hs e p = rw (piled-none t m hs items e p) (refl, λ f end. refl)
 
   pub takes-path : (hs : List Held) (s : ℕ) (ns : Vec ℕ Global) → hs ≡ news ++ held.Path s ns ∷ [] → Piled t m hs items
@@ -60,7 +61,7 @@ module _ (t : Tables) (m : Truth) (news : List Held) (items : List Item) where
   no-path h x xs other is = (refl, λ f end. refl)
 
   pub takes-other : (hs : List Held) (h : Held) → hs ≡ news ++ h ∷ [] → ((s : ℕ) (ns : Vec ℕ Global) → h ≡ held.Path s ns → ⊥) → Piled t m hs items
-      → TakesPath t m news items (Err refusal.NotExpression)
+      → TakesPath t m news items (Err refusal.NotRaised)
   takes-other hs h e other p =
       let (x, xs, same, is, below) = piled-pop t m hs news h items e p in
       rw same (no-path h x xs other is)

@@ -15,7 +15,8 @@ use Rattle.rg_verify.specs.declared.refusal.Refusal.{Refusal}
 use Rattle.rg_verify.specs.declared.refusal.Refusal.TheVariants as refusal
 use Rattle.rg_verify.specs.Raised.{Raised, element, named, path_named}
 use Rattle.rg_verify.specs.Raising.{Item, tree, checked, indexed, from_checked, from_index, from_place}
-use Rattle.rg_verify.specs.Inner.Adds.{IsPath, IsTree, IsExprRow}
+use Rattle.rg_verify.specs.Rows.{IsPath, IsTree}
+use Rattle.rg_verify.specs.Inner.Adds.{IsExprRow}
 use Rattle.rg_verify.specs.Inner.Stacks.{is_path, IsFor, Piled, Makes, TakesRow, TakesPath, TakesChecked, TakesPlace, Pushes}
 use Rattle.rg_verify.proofs.TreeStack.{piled-later, piled-push, piled-pop, piled-none}
 use Rattle.rg_verify.proofs.Put.{Puts}
@@ -24,10 +25,10 @@ use Rattle.rg_verify.proofs.Path.{PathRow}
 module _ (t : Tables) (m : Truth) (news : List Held) (items : List Item) where
   -- the topmost item, a path that was tested or a place
 
-  pub takes-no-checked : (hs : List Held) → length hs ≡ 0 → Piled t m hs items → TakesChecked t m news items (Err refusal.NotExpression)
+  pub takes-no-checked : (hs : List Held) → length hs ≡ 0 → Piled t m hs items → TakesChecked t m news items (Err refusal.NotRaised)
   takes-no-checked hs e p = rw (piled-none t m hs items e p) tt
 
-  pub takes-no-place : (hs : List Held) → length hs ≡ 0 → Piled t m hs items → TakesPlace t m news items (Err refusal.NotExpression)
+  pub takes-no-place : (hs : List Held) → length hs ≡ 0 → Piled t m hs items → TakesPlace t m news items (Err refusal.NotRaised)
   takes-no-place hs e p = rw (piled-none t m hs items e p) tt
 
   pub takes-checked : (hs : List Held) (p : row_path.Path) → hs ≡ news ++ held.Checked p ∷ [] → Piled t m hs items
@@ -41,13 +42,13 @@ module _ (t : Tables) (m : Truth) (news : List Held) (items : List Item) where
       by x xs is below = absurd is
 
   pub takes-other-checked : (hs : List Held) (h : Held) → hs ≡ news ++ h ∷ [] → ((p : row_path.Path) → h ≡ held.Checked p → ⊥) → Piled t m hs items
-      → TakesChecked t m news items (Err refusal.NotExpression)
+      → TakesChecked t m news items (Err refusal.NotRaised)
   takes-other-checked hs h e other q =
       let (x, xs, same, is, below) = piled-pop t m hs news h items e q in
       rw same (by h x xs other is)
     where
       by : (h : Held) (x : Item) (xs : List Item) → ((p : row_path.Path) → h ≡ held.Checked p → ⊥) → IsFor t m h x
-          → TakesChecked t m news (x ∷ xs) (Err refusal.NotExpression)
+          → TakesChecked t m news (x ∷ xs) (Err refusal.NotRaised)
       by (held.Checked p) (checked s ks) xs other is = absurd (other p refl)
       by h (checked s ks) xs other is = absurd is
       by h x xs other is = tt
@@ -63,13 +64,13 @@ module _ (t : Tables) (m : Truth) (news : List Held) (items : List Item) where
       by x xs is below = absurd is
 
   pub takes-other-place : (hs : List Held) (h : Held) → hs ≡ news ++ h ∷ [] → ((p : row_path.Path) (n : ℕ) → h ≡ held.Indexed p n → ⊥)
-      → Piled t m hs items → TakesPlace t m news items (Err refusal.NotExpression)
+      → Piled t m hs items → TakesPlace t m news items (Err refusal.NotRaised)
   takes-other-place hs h e other q =
       let (x, xs, same, is, below) = piled-pop t m hs news h items e q in
       rw same (by h x xs other is)
     where
       by : (h : Held) (x : Item) (xs : List Item) → ((p : row_path.Path) (n : ℕ) → h ≡ held.Indexed p n → ⊥) → IsFor t m h x
-          → TakesPlace t m news (x ∷ xs) (Err refusal.NotExpression)
+          → TakesPlace t m news (x ∷ xs) (Err refusal.NotRaised)
       by (held.Indexed p n) (indexed s ks a) xs other is = absurd (other p n refl)
       by h (indexed s ks a) xs other is = absurd is
       by h x xs other is = tt
@@ -90,7 +91,7 @@ module _ (t u : Tables) (m : Truth) (now : List Held) (items : List Item) (s : �
         extends = g;
         piled = piled-push u m now news (held.Checked p) below (checked s ks) pushed is (piled-later m now below g rest);
       }
-      by ks below g is rest (Err refusal.NotExpression) pushed = absurd pushed
+      by ks below g is rest (Err refusal.NotRaised) pushed = absurd pushed
       by ks below g is rest (Err refusal.Memory) pushed = tt
 
 -- an index is tested
@@ -111,7 +112,7 @@ module _ (t u : Tables) (m : Truth) (now next : List Held) (items : List Item) (
             extends = made.extends;
             piled = piled-push u m next news (held.Indexed p n) below (indexed s ks a) pushed (is, made.means) under;
           }
-      by (tree a ∷ checked s ks ∷ below) (made, rest) (Err refusal.NotExpression) pushed = absurd pushed
+      by (tree a ∷ checked s ks ∷ below) (made, rest) (Err refusal.NotRaised) pushed = absurd pushed
       by (tree a ∷ checked s ks ∷ below) (made, rest) (Err refusal.Memory) pushed = tt
       by (tree a ∷ below) (made, rest) result pushed = absurd (checks below rest)
       by items taken result pushed = absurd taken
@@ -120,9 +121,9 @@ module _ (t u : Tables) (m : Truth) (now next : List Held) (items : List Item) (
   bound-refused e checks = by items taken e checks
     where
       by : (items : List Item) → TakesRow t u m now items (Ok n) → (e : Refusal) → Beneath (Err e) → Makes t u m next (Err e) (from_index items)
-      by (tree a ∷ checked s ks ∷ below) (made, rest) refusal.NotExpression checks = absurd (checks (checked s ks ∷ below) rest)
+      by (tree a ∷ checked s ks ∷ below) (made, rest) refusal.NotRaised checks = absurd (checks (checked s ks ∷ below) rest)
       by (tree a ∷ checked s ks ∷ below) (made, rest) refusal.Memory checks = tt
-      by (tree a ∷ below) (made, rest) refusal.NotExpression checks = refl
+      by (tree a ∷ below) (made, rest) refusal.NotRaised checks = refl
       by (tree a ∷ below) (made, rest) refusal.Memory checks = tt
       by items taken e checks = absurd taken
 
@@ -166,7 +167,7 @@ module _ (t : Tables) (m : Truth) (now : List Held) (items : List Item) (p : row
 
 pub element-refused : (t : Tables) (m : Truth) (now : List Held) (items : List Item) (e : Refusal) (end : ℕ) → TakesPlace t m now items (Err e)
     → Makes t t m now (Err e) (from_place end items)
-element-refused t m now (indexed s ks a ∷ below) refusal.NotExpression end taken = absurd taken
+element-refused t m now (indexed s ks a ∷ below) refusal.NotRaised end taken = absurd taken
 element-refused t m now (indexed s ks a ∷ below) refusal.Memory end taken = absurd taken
-element-refused t m now items refusal.NotExpression end taken = refl
+element-refused t m now items refusal.NotRaised end taken = refl
 element-refused t m now items refusal.Memory end taken = absurd taken

@@ -31,7 +31,7 @@ pub makes-behind : {t u : Tables} (v : Tables) (m : Truth) (hs : List Held) (res
     → Makes u v m hs result wanted → Makes t v m hs result wanted
 makes-behind v m hs (Ok done) (Some items) g h = record { extends = extends-trans g h.extends; piled = h.piled }
 makes-behind v m hs (Ok done) None g h = absurd h
-makes-behind v m hs (Err refusal.NotExpression) wanted g h = h
+makes-behind v m hs (Err refusal.NotRaised) wanted g h = h
 makes-behind v m hs (Err refusal.Memory) wanted g h = tt
 
 -- a call that makes a stack of any that stands for one, over a tree that comes
@@ -81,7 +81,7 @@ module _ (t u : Tables) (m : Truth) (now : List Held) where
       → TakesRow t u m now items (Ok n) → Pushes now news (held.Waits (record { junction = j; left = n; to = to })) result
       → Makes t u m news result (from_left j to items)
   put-waiting news n j to (Err refusal.Memory) (tree r ∷ below) h pushed = tt
-  put-waiting news n j to (Err refusal.NotExpression) (tree r ∷ below) h pushed = absurd pushed
+  put-waiting news n j to (Err refusal.NotRaised) (tree r ∷ below) h pushed = absurd pushed
   put-waiting news n j to (Ok done) (tree r ∷ below) (made, p) pushed = record {
     extends = made.extends;
     piled = piled-push u m now news (held.Waits (record { junction = j; left = n; to = to })) below (waits j r to) pushed (refl, refl, made.means) p;

@@ -15,7 +15,7 @@ use Rattle.rg_tree.proofs.Callers.{Holds-keeps}
 use Rattle.rg_tree.specs.Adds.{Extends, Means, Adds}
 use Rattle.rg_tree.proofs.Adding.{extends-same, extends-trans, extends-by, means-later}
 use Rattle.rg_verify.specs.Naming.{variable_name, variable_in}
-use Rattle.rg_verify.specs.Inner.Adds.{AreNames}
+use Rattle.rg_verify.specs.Rows.{AreNames}
 
 module _ {V A : Type 0} {at : Tables → V → A} {exists : Tables → V → Type 0} where
   -- what is there was added to what it is in

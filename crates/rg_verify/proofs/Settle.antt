@@ -15,7 +15,8 @@ use Rattle.rg_verify.specs.declared.part.Junction.{Junction}
 use Rattle.rg_verify.specs.declared.refusal.Refusal.TheVariants as refusal
 use Rattle.rg_verify.specs.Raised.{Raised, named, binary}
 use Rattle.rg_verify.specs.Raising.{operator_of, Item, tree, waits, settle}
-use Rattle.rg_verify.specs.Inner.Adds.{IsTree, AddsTree, IsExprRow}
+use Rattle.rg_verify.specs.Rows.{IsTree}
+use Rattle.rg_verify.specs.Inner.Adds.{AddsTree, IsExprRow}
 use Rattle.rg_verify.specs.Inner.Stacks.{IsFor, Piled, TakesWait}
 use Rattle.rg_verify.proofs.Settling.{settle-taken}
 use Rattle.rg_verify.proofs.TreeStack.{piled-later}

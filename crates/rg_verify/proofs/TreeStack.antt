@@ -15,7 +15,7 @@ use Rattle.rg_verify.specs.declared.refusal.Refusal.{Refusal}
 use Rattle.rg_verify.specs.declared.refusal.Refusal.TheVariants as refusal
 use Rattle.rg_verify.specs.Raised.{Raised, named}
 use Rattle.rg_verify.specs.Raising.{Item, tree, checked, indexed, waits, settle}
-use Rattle.rg_verify.specs.Inner.Adds.{IsTree}
+use Rattle.rg_verify.specs.Rows.{IsTree}
 use Rattle.rg_verify.specs.Inner.Stacks.{IsFor, Piled, MakesRow, TakesRow, waiting, TakesWait}
 
 -- the tables grow
@@ -57,16 +57,16 @@ piled-none t m hs (x ∷ xs) e (below, g, f, is, p) = absurd (omega (arith, e, a
 -- a row of the topmost tree
 
 pub takes-none : (t u : Tables) (m : Truth) (hs news : List Held) (items : List Item) → length hs ≡ 0 → Piled t m hs items
-    → TakesRow t u m news items (Err refusal.NotExpression)
+    → TakesRow t u m news items (Err refusal.NotRaised)
 takes-none t u m hs news items e p = rw (piled-none t m hs items e p) tt
 
 takes-by : (t u : Tables) (m : Truth) (news : List Held) (x : Item) (xs : List Item) (r : Result ℕ Refusal) → MakesRow t u m x r → Piled t m news xs
     → TakesRow t u m news (x ∷ xs) r
 takes-by t u m news (tree a) xs (Ok n) made p = (made, piled-later m news xs made.extends p)
-takes-by t u m news (tree a) xs (Err refusal.NotExpression) made p = absurd made
+takes-by t u m news (tree a) xs (Err refusal.NotRaised) made p = absurd made
 takes-by t u m news (tree a) xs (Err refusal.Memory) made p = tt
 takes-by t u m news x xs (Ok n) made p = absurd made
-takes-by t u m news x xs (Err refusal.NotExpression) made p = tt
+takes-by t u m news x xs (Err refusal.NotRaised) made p = tt
 takes-by t u m news x xs (Err refusal.Memory) made p = tt
 
 pub takes-row : (t u : Tables) (m : Truth) (hs news : List Held) (h : Held) (items : List Item) (r : Result ℕ Refusal) → hs ≡ news ++ h ∷ []

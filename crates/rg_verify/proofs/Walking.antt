@@ -88,7 +88,7 @@ module _ {t u : Tables} {m : Truth} {ops : List Op} {from at : ℕ} {hs : List H
           → ((items : List Item) → Piled u m hs items → Makes u v m news (Err e) (act p (at + 1) items))
           → Walks t v m (walk (drop from ops) from []) (Err e)
       walking-refused v news refusal.Memory h = tt
-      walking-refused v news refusal.NotExpression h =
+      walking-refused v news refusal.NotRaised h =
           let one : at + 1 ≡ suc at = omega arith in
           let no : act p (suc at) w.items ≡ None = subst (λ (n : ℕ). act p n w.items ≡ None) one (h w.items w.holds.piled) in
           sym w.same ∙ goes_on None no
@@ -141,8 +141,8 @@ refused-by : (t u v : Tables) (m : Truth) (wanted : Option (List Front)) (x : It
     (e : Refusal) → front_in x ≡ f → fronts (x ∷ below) done ≡ wanted → MakesFront u v m f (Err e) → MakesFronts t v m wanted (Err e)
 refused-by t u v m None x below done f refusal.Memory is same h = tt
 refused-by t u v m (Some fs) x below done f refusal.Memory is same h = tt
-refused-by t u v m wanted x below done None refusal.NotExpression is same h = sym same ∙ fronts-by x below done None is
-refused-by t u v m wanted x below done (Some f) refusal.NotExpression is same h = absurd h
+refused-by t u v m wanted x below done None refusal.NotRaised is same h = sym same ∙ fronts-by x below done None is
+refused-by t u v m wanted x below done (Some f) refusal.NotRaised is same h = absurd h
 
 pub taking-refused : {t u : Tables} (v : Tables) {m : Truth} {hs : List Held} (news : List Held) (h : Held) {rows : List FrontRow}
     {wanted : Option (List Front)} (e : Refusal) → Taking t u m hs rows wanted → hs ≡ news ++ h ∷ []
@@ -175,7 +175,7 @@ raised-fronts : (ops : List Op) (at end : ℕ) (items : List Item) (r : Option (
 unfolding raised
 raised-fronts ops at end items r e f = rw (raised, e, f) refl
 
-refuses : (t u : Tables) (m : Truth) (ops : List Op) (at : ℕ) → raised ops at ≡ None → RaisesAll t u m ops at (Err refusal.NotExpression)
+refuses : (t u : Tables) (m : Truth) (ops : List Op) (at : ℕ) → raised ops at ≡ None → RaisesAll t u m ops at (Err refusal.NotRaised)
 refuses t u m ops at e fs end s =
     let f : raised ops at ≡ Some (fs, end) = stand-raised ops at fs end s in
     absurd cc
@@ -183,14 +183,14 @@ refuses t u m ops at e fs end s =
 pub walk-refused : (t u : Tables) (m : Truth) (ops : List Op) (at : ℕ) (e : Refusal) → Walks t u m (walk ops at []) (Err e)
     → RaisesAll t u m ops at (Err e)
 walk-refused t u m ops at refusal.Memory h = tt
-walk-refused t u m ops at refusal.NotExpression h = refuses t u m ops at (raised-none ops at h)
+walk-refused t u m ops at refusal.NotRaised h = refuses t u m ops at (raised-none ops at h)
 
 module _ (t u v : Tables) (m : Truth) (ops : List Op) (at end : ℕ) (stack : Vec Held Global)
     (h : Walks t u m (walk ops at []) (Ok (stack, end))) where
   pub rows-refused : (e : Refusal) → ((items : List Item) → Piled u m stack.items items → MakesFronts u v m (fronts items []) (Err e))
       → RaisesAll t v m ops at (Err e)
   rows-refused refusal.Memory k = tt
-  rows-refused refusal.NotExpression k =
+  rows-refused refusal.NotRaised k =
       let (items, e, holds) = h in
       refuses t v m ops at (raised-fronts ops at end items None e (k items holds.piled))
 

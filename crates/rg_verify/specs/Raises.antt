@@ -25,7 +25,7 @@ pub record Stand (ops : List Op) (at : ℕ) (fs : List Front) (end : ℕ) : Type
 abbrev pub RaisesAll : (old new : Tables) → (in_method : Truth) → List Op → (at : ℕ) → Result (Vec FrontRow Global × ℕ) Refusal → Type 0
 RaisesAll old new m ops at (Ok x) =
     (fs : List Front) × Stand ops at fs x.1 × Extends old new × AreFronts new x.0.items (map (front_named m) fs)
-RaisesAll old new m ops at (Err refusal.NotExpression) = (fs : List Front) (end : ℕ) → Stand ops at fs end → ⊥
+RaisesAll old new m ops at (Err refusal.NotRaised) = (fs : List Front) (end : ℕ) → Stand ops at fs end → ⊥
 RaisesAll old new m ops at (Err refusal.Memory) = Unit {0}
 
 -- instructions begin with the code of at most one list of fronts

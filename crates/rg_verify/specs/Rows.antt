@@ -1,13 +1,26 @@
 -- Rows that stand for what was raised, now and wherever the tables grow (docs/architecture.md, "Modules").
 use Rattle.std.specs.Prelude.{ℕ, Bool as Truth, List, All, map}
-use Rattle.rg_tree.specs.Tree.{Path, Expr}
-use Rattle.rg_tree.specs.Rows.Tables.{Tables}
+use Rattle.rg_tree.specs.declared.rows.Path as row
+use Rattle.rg_tree.specs.Tree.{Name, Path, Expr}
+use Rattle.rg_tree.specs.Rows.Tables.{Tables, name_at}
 use Rattle.rg_tree.specs.Rows.RowTrees.{expr_at, path_of}
-use Rattle.rg_tree.specs.Rows.RowsExist.{IsExprNumber, IsPathIn}
+use Rattle.rg_tree.specs.Rows.RowsExist.{IsNameIn, IsExprNumber, IsPathIn}
 use Rattle.rg_tree.specs.Adds.{Means}
 use Rattle.rg_verify.specs.declared.front.FrontRow.{FrontRow}
 use Rattle.rg_verify.specs.declared.front.FrontRow.TheVariants as front
 use Rattle.rg_verify.specs.Raised.{Front, expression, object, place, path_named, named}
+
+-- names by their numbers, in order
+abbrev pub AreNames : Tables → List ℕ → List Name → Type 0
+AreNames t ns xs = Means (λ u. map (name_at u)) (λ u. All (IsNameIn u)) t ns xs
+
+-- an expression by its number
+abbrev pub IsTree : Tables → ℕ → Expr → Type 0
+IsTree t n e = Means expr_at IsExprNumber t n e
+
+-- a path by its row
+abbrev pub IsPath : Tables → row.Path → Path → Type 0
+IsPath t p q = Means path_of IsPathIn t p q
 
 -- a front with its names
 pub data NamedFront : Type 0 where

@@ -2,9 +2,11 @@
 
 use std::alloc::Global;
 
-/// What stays along a body: where memory comes from, and whether it is that of a method.
+/// What stays along a body.
 #[derive(Clone, Copy)]
-pub(crate) struct Body {
+pub struct Body {
+    /// where memory comes from
     pub alloc: Global,
+    /// whether the body is that of a method
     pub in_method: bool,
 }

@@ -50,7 +50,7 @@ pub enum Junction {
 }
 
 /// What an instruction is in an expression; None where none has it.
-pub(crate) fn part_of(op: Op) -> Option<Part>
+pub fn part_of(op: Op) -> Option<Part>
     ensures { result ≡ parts.part_of op }
 {
     match op {

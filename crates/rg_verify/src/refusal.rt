@@ -1,10 +1,10 @@
 //! Why code isn't raised (docs/architecture.md, "Modules").
 
-/// Why no expressions were raised.
+/// Why nothing was raised.
 #[derive(Clone, Copy)]
 pub enum Refusal {
-    /// no expressions have this code
-    NotExpression,
+    /// nothing has this code
+    NotRaised,
     /// no memory was found
     Memory,
 }

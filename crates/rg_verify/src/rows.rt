@@ -7,7 +7,8 @@ ghost use Rattle.rg_tree.specs.Rows.RowsExist.{IsNameIn, IsPathIn, IsVariableIn}
 ghost use Rattle.rg_tree.specs.Adds.{Extends, Adds};
 ghost use Rattle.rg_verify.specs.Naming.{variable_in, field_name};
 ghost use Rattle.rg_verify.specs.Raised.{path_named};
-ghost use Rattle.rg_verify.specs.Inner.Adds.{AreNames, AddsTree};
+ghost use Rattle.rg_verify.specs.Rows.{AreNames};
+ghost use Rattle.rg_verify.specs.Inner.Adds.{AddsTree};
 ghost use Rattle.rg_verify.specs.Inner.Adds.{IsExprRow};
 
 use crate::body::Body;
@@ -27,12 +28,7 @@ fn name_text(alloc: Global, letter: u8, n: u32) -> Result<ByteList, Memory>
 }
 
 /// Adds the name that is a letter and a number.
-pub(crate) fn add_name(
-    alloc: Global,
-    program: &mut Program,
-    letter: u8,
-    n: u32,
-) -> Result<u32, Memory>
+pub fn add_name(alloc: Global, program: &mut Program, letter: u8, n: u32) -> Result<u32, Memory>
     ensures adds { IfOk result (λ k.
         Adds name_at IsNameIn program.old program.new k (letter ∷ decimal n)) }
     ensures grows { Extends program.old program.new }
@@ -63,7 +59,7 @@ fn add_base(body: Body, program: &mut Program, slot: u32) -> Result<Option<u32>,
 }
 
 /// Adds what a path needs, whose fields have these names.
-pub(crate) fn path_row(
+pub fn path_row(
     body: Body,
     program: &mut Program,
     slot: u32,

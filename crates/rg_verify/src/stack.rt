@@ -63,7 +63,7 @@ pub(crate) fn front_of(body: Body, program: &mut Program, held: Held) -> Result<
         Held::Tree { row } => Ok(FrontRow::Expression { row }),
         Held::Checked { path } => Ok(FrontRow::Object { path }),
         Held::Indexed { path, index } => Ok(FrontRow::Place { path, index }),
-        Held::Waits { .. } => Err(Refusal::NotExpression),
+        Held::Waits { .. } => Err(Refusal::NotRaised),
     }
 }
 
@@ -76,7 +76,7 @@ fn row_of(body: Body, program: &mut Program, held: Held) -> Result<u32, Refusal>
 {
     let front = front_of(body, program, held)?;
     let FrontRow::Expression { row } = front else {
-        return Err(Refusal::NotExpression);
+        return Err(Refusal::NotRaised);
     };
     Ok(row)
 }
@@ -93,7 +93,7 @@ pub(crate) fn take_row(
     ensures grows { Extends program.old program.new }
 {
     let Some(held) = stack.pop() else {
-        return Err(Refusal::NotExpression);
+        return Err(Refusal::NotRaised);
     };
     let row = row_of(body, program, held)?;
     Ok(row)
@@ -105,10 +105,10 @@ fn take_path(stack: &mut Vec<Held>) -> Result<(u32, Vec<u32>), Refusal>
         TakesPath t m stack.new.items items result }
 {
     let Some(held) = stack.pop() else {
-        return Err(Refusal::NotExpression);
+        return Err(Refusal::NotRaised);
     };
     let Held::Path { slot, fields } = held else {
-        return Err(Refusal::NotExpression);
+        return Err(Refusal::NotRaised);
     };
     Ok((slot, fields))
 }
@@ -119,10 +119,10 @@ fn take_checked(stack: &mut Vec<Held>) -> Result<Path, Refusal>
         TakesChecked t m stack.new.items items result }
 {
     let Some(held) = stack.pop() else {
-        return Err(Refusal::NotExpression);
+        return Err(Refusal::NotRaised);
     };
     let Held::Checked { path } = held else {
-        return Err(Refusal::NotExpression);
+        return Err(Refusal::NotRaised);
     };
     Ok(path)
 }
@@ -133,10 +133,10 @@ fn take_place(stack: &mut Vec<Held>) -> Result<(Path, u32), Refusal>
         TakesPlace t m stack.new.items items result }
 {
     let Some(held) = stack.pop() else {
-        return Err(Refusal::NotExpression);
+        return Err(Refusal::NotRaised);
     };
     let Held::Indexed { path, index } = held else {
-        return Err(Refusal::NotExpression);
+        return Err(Refusal::NotRaised);
     };
     Ok((path, index))
 }

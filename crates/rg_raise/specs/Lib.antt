@@ -1,0 +1,4 @@
+-- What calls make of blocks that are raised from their code (docs/architecture.md, "Modules").
+pub mod Uses
+pub mod Fronts
+pub mod Telling
