@@ -1,4 +1,4 @@
--- Lemmas of this crate, and contents that were computed; none is for crates above.
+-- Lemmas of this crate, and contents that were computed; those with pub are for crates above.
 mod ClassNumber
-mod OneByOne
+pub mod OneByOne
 mod Examples
