@@ -1,0 +1,7 @@
+-- The lemmas that the answers of rg_plan use.
+mod PieceSteps
+mod Digits
+mod Visible
+mod NameSteps
+mod OwnedSteps
+mod Examples

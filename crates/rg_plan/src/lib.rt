@@ -1,0 +1,27 @@
+//! Plans of cowns and behaviours (docs/architecture.md, "Plans"). `read_plan` reads one: it answers
+//! the plan that the bytes say for a program, else the first line that breaks a rule, or want of
+//! memory (its clause is `ReadAs` with `plan_of` of `specs/Rules`). A `Plan` holds its cowns and its
+//! behaviours in the order of their lines.
+#![tactic(auto)]
+
+mod behaviour;
+mod classes;
+mod cown;
+mod file_name;
+mod limits;
+mod lines;
+mod owned;
+mod pieces;
+mod planned;
+mod reading;
+mod stop;
+mod targets;
+mod words;
+
+pub use behaviour::Behaviour;
+pub use cown::{Cown, Start};
+pub use file_name::FileName;
+pub use limits::{BEHAVIOURS, COWNS, NUMBER_DIGITS};
+pub use planned::Plan;
+pub use reading::read_plan;
+pub use stop::PlanStop;
