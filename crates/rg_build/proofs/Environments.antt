@@ -1,35 +1,33 @@
 -- The scope of a body has the names and the declared types of its environment, at each point of an accepted program.
-use Rattle.std.proofs.Common.{◌≡◌, refl, sym, ap, ◌∙◌, subst, ℕ, zero, suc, Bool as Truth, true, false, List, [], ◌∷◌, ◌++◌, length, map, find}
-use Rattle.std.proofs.Common.{if◌then◌else◌, Option, Some, None, option_map, ok_or, unwrap_or, Result, Ok, arith}
-use Rattle.std.proofs.lemmas.List.{length-map}
+use Rattle.std.proofs.Common.{◌≡◌, refl, sym, ap, ◌∙◌, subst, ℕ, Bool as Truth, true, false, List, [], ◌∷◌, ◌++◌, length, map, find}
+use Rattle.std.proofs.Common.{if◌then◌else◌, Option, Some, None, ok_or, unwrap_or, Result, Ok, arith}
 use Rattle.rg_base.specs.declared.words.Cap.{Cap}
 use Rattle.rg_base.specs.declared.words.Cap.TheVariants.{Mut, Tmp, Paused, Imm, Iso}
 use Rattle.rg_base.specs.declared.ty.Ty.{Ty}
 use Rattle.rg_base.specs.declared.ty.Ty.TheVariants.{Int, Bool, Ref}
 use Rattle.rg_base.specs.declared.fault.Code.TheVariants.{Unknown, Capability, Return, Loop}
-use Rattle.rg_tree.specs.Tree.{Name, Variable, Path, Expr, Call, Right, stmt, StmtKind, declare, assign, assign_element, call, swap, branch, while}
-use Rattle.rg_tree.specs.Tree.{enter, print, collect, return, Else, no_else, otherwise, Block, empty as none, then as next, Class}
+use Rattle.rg_tree.specs.Tree.{Name, Variable, Path, Expr, Call, StmtKind, declare, assign, assign_element, call, swap, branch, while}
+use Rattle.rg_tree.specs.Tree.{enter, print, collect, return, Else, Block, Class}
 use Rattle.rg_rules.specs.Answers.{test, at_line}
 use Rattle.rg_rules.specs.Capabilities.{adapt, pause, iso_class, may_write, printable}
-use Rattle.rg_rules.specs.Types.{field_type, type_of}
-use Rattle.rg_rules.specs.Environment.{Env, Entry, same_variable, entry_of, at_depth, seen_type, with_variable, marked, lent, ready, closed, joined, covers}
+use Rattle.rg_rules.specs.Types.{field_type}
+use Rattle.rg_rules.specs.Environment.{Env, Entry, same_variable, entry_of, at_depth, seen_type, lent, closed, covers}
 use Rattle.rg_rules.specs.Environment.{marked_entry}
-use Rattle.rg_rules.specs.Paths.{read_through, look_up, walk_field, walk_fields, walk, all_but_last, last_field, walk_receiver, writable_field}
+use Rattle.rg_rules.specs.Paths.{read_through, look_up, walk_field, walk_fields, walk, all_but_last, last_field, walk_receiver}
 use Rattle.rg_rules.specs.Expressions.{judge_expr}
 use Rattle.rg_rules.specs.Rights.{judge_call}
-use Rattle.rg_rules.specs.Statements.{judge_test, judge_enter, judge_giving, judge_call_alone, judge_print, judge_return, left, judge_kind}
+use Rattle.rg_rules.specs.Statements.{judge_test, judge_enter, judge_giving, judge_call_alone, judge_print, judge_return, judge_kind}
 use Rattle.rg_rules.specs.Statements.{judge_else, judge_block}
 use Rattle.rg_rules.proofs.Answers.{bind-ok, then-ok, test-then, ok_or-ok, at_line-ok}
 use Rattle.rg_rules.proofs.Path.{look_up-ok}
 use Rattle.rg_rules.proofs.Header.{good_type-type_of}
-use Rattle.rg_sound.proofs.Frames.Entry.{Absent, Distinct, settled, Keeps, Keeps-same, Keeps-trans, Stays, Stays-same, Stays-trans, Stays-distinct}
+use Rattle.rg_sound.proofs.Frames.Entry.{Distinct, Keeps, Keeps-same, Stays, Stays-same, Stays-trans, Stays-distinct}
 use Rattle.rg_sound.proofs.Frames.Entry.{Stays-closed, Stays-joined}
 use Rattle.rg_sound.proofs.Frames.JudgeRight.{judge_expr-stays, judge_call-stays, judge_right-stays}
 use Rattle.rg_sound.proofs.Frames.Judge.{judge_declare-parts, judge_assign-stays, judge_assign_element-stays, judge_swap-parts, judge_test-stays}
 use Rattle.rg_sound.proofs.Frames.Judge.{judge_enter-variable, judge_enter-field, judge_enter-inner, left-stays, judge_else-goes, judge_block-goes}
-use Rattle.rg_code.specs.Lowering.{Slot, Scope, with_slot, type_in, type_behind, type_along, class_of, scope_behind, scope_inside}
+use Rattle.rg_code.specs.Lowering.{Slot, Scope, type_in, type_behind, type_along, class_of, scope_behind, scope_inside}
 use Rattle.rg_build.specs.Maps.{types_in}
-use Rattle.rg_build.specs.Laws.{types_at}
 
 -- Answers
 

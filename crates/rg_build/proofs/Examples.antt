@@ -1,14 +1,12 @@
 -- Programs with their modules and the bytes of these, computed.
-use Rattle.std.proofs.Common.{◌≡◌, refl, ℕ, pos, true, false, List, [], ◌∷◌, length, Some, None, codes, slice_get}
+use Rattle.std.proofs.Common.{◌≡◌, refl, pos, true, false, [], ◌∷◌, length, Some, None, codes}
 use Rattle.rg_base.specs.declared.ty.Ty.{Ty}
 use Rattle.rg_base.specs.declared.ty.Ty.TheVariants as ty
 use Rattle.rg_base.specs.declared.words.Cap.TheVariants as cap
 use Rattle.rg_base.specs.declared.words.Manager.TheVariants as manager
-use Rattle.rg_tree.specs.declared.rows.BinOp.TheVariants as op
-use Rattle.rg_tree.specs.Tree.{int, bool, number, boolean, binary, value, new, new_tmp, new_iso, result_of, read, declare, assign, branch, while}
-use Rattle.rg_tree.specs.Tree.{enter, print, return, no_else, otherwise, size, element, assign_element, Tree, Class, Member, field, method, Block, stmt}
-use Rattle.rg_tree.specs.Tree.{then, empty}
-use Rattle.rg_rules.proofs.Sources.{self, var, dot, use_of, to, call_of, block, param, field_named, method_named, class_named, program}
+use Rattle.rg_tree.specs.Tree.{int, bool, number, boolean, value, new, new_tmp, new_iso, result_of, declare, branch, while}
+use Rattle.rg_tree.specs.Tree.{enter, print, return, otherwise, element, Tree}
+use Rattle.rg_rules.proofs.Sources.{var, dot, use_of, to, call_of, block, param, field_named, method_named, class_named, program}
 use Rattle.rg_module.specs.Follows.{code_for}
 use Rattle.rg_module.specs.Spelling.{spelling}
 use Rattle.rg_build.specs.Maps.{maps_of}

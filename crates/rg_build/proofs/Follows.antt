@@ -1,6 +1,6 @@
 -- What of the code of an accepted program follows from its classes, heads and instructions: each body has one instruction that ends it, the
 -- last one.
-use Rattle.std.proofs.Common.{◌≡◌, refl, sym, ap, ◌∙◌, subst, ℕ, suc, ◌+◌, false, true, Bool as Truth, if◌then◌else◌, List, [], ◌∷◌, ◌++◌, length}
+use Rattle.std.proofs.Common.{◌≡◌, refl, sym, ap, ◌∙◌, subst, ℕ, suc, ◌+◌, false, true, List, [], ◌∷◌, ◌++◌, length}
 use Rattle.std.proofs.Common.{map, drop, Option, Some, None, option_map, Ok, append_assoc, arith}
 use Rattle.std.proofs.lemmas.Bool.{false≢true}
 use Rattle.std.proofs.lemmas.List.{append-nil, length-map}
@@ -8,15 +8,13 @@ use Rattle.std.proofs.Math.Seq.{drop-append_seam}
 use Rattle.rg_base.specs.declared.fault.Code.TheVariants.{Return}
 use Rattle.rg_base.specs.declared.ty.Ty.{Ty}
 use Rattle.rg_base.specs.declared.value.Word.{Word}
-use Rattle.rg_tree.specs.Tree.{Name, Variable, Ty as Written, int, bool, ref, Path, Expr, number, boolean, nil, path, is_nil, neg, not, binary, size}
-use Rattle.rg_tree.specs.Tree.{element, Call, Right, value, new, new_tmp, new_iso, freeze, merge, read, more, result_of, stmt, StmtKind}
+use Rattle.rg_tree.specs.Tree.{Name, Variable, Ty as Written, int, bool, ref, Expr}
+use Rattle.rg_tree.specs.Tree.{element, Call, stmt, StmtKind}
 use Rattle.rg_tree.specs.Tree.{declare, assign, assign_element, call, swap, branch, while, enter, print, collect, return, Else, no_else, otherwise}
 use Rattle.rg_tree.specs.Tree.{Block, empty as none, then as next, Method, Member, field, method, Class, Tree}
-use Rattle.rg_rules.specs.Capabilities.{is_iso}
-use Rattle.rg_rules.specs.Types.{class_number, type_of, param_types}
+use Rattle.rg_rules.specs.Types.{type_of, param_types}
 use Rattle.rg_rules.specs.Environment.{Env, empty}
 use Rattle.rg_rules.specs.Answers.{test, at_line}
-use Rattle.rg_rules.specs.Paths.{all_but_last}
 use Rattle.rg_rules.specs.Statements.{judge_kind, judge_else, judge_block, judge_test, judge_enter, last_of}
 use Rattle.rg_rules.specs.Bodies.{method_env, main_body, method_body, judge_body, is_return, last_is_return, gives_result, judge_method, judge_members}
 use Rattle.rg_rules.specs.Bodies.{judge_methods}
@@ -26,10 +24,10 @@ use Rattle.rg_rules.proofs.Acceptance.{Accepted-parts}
 use Rattle.rg_code.specs.declared.op.Op.{Op}
 use Rattle.rg_code.specs.declared.op.Op.TheVariants as i
 use Rattle.rg_code.specs.declared.code.Entry.{Entry}
-use Rattle.rg_code.specs.Lowering.{Scope, path_code, fields_code, holder_code, expr_code, exprs_code, operator_code, used_slots, used_by_all, clears}
-use Rattle.rg_code.specs.Lowering.{whole_code, call_code, call_result, new_code, right_code, pace_code, assign_op, dropped_code, assign_code}
+use Rattle.rg_code.specs.Lowering.{Scope}
+use Rattle.rg_code.specs.Lowering.{whole_code, call_code, call_result, right_code, pace_code, dropped_code, assign_code}
 use Rattle.rg_code.specs.Lowering.{assign_element_code, swap_code, enter_code, leave_op, kind_code, else_code, block_code, scope_behind}
-use Rattle.rg_code.specs.Lowering.{scope_inside, scope_at_end, type_in, type_behind, number_called, target_class, held_number, slot_of, else_gap, gap}
+use Rattle.rg_code.specs.Lowering.{scope_inside, scope_at_end, else_gap}
 use Rattle.rg_code.specs.Lowering.{method_scope, method_end_code, method_code, main_code, slots_of, Methods, with_method, members_code, methods_code}
 use Rattle.rg_code.specs.Lowering.{opening_word, opening_words, opening_of, lowered}
 use Rattle.rg_spell.specs.declared.rows.Head.{Head}

@@ -1,5 +1,5 @@
 -- The maps of a body are those of the environments at the points at which its marks stand.
-use Rattle.std.proofs.Common.{◌≡◌, refl, sym, ap, ◌∙◌, subst, ℕ, zero, suc, ◌+◌, Bool as Truth, true, false, List, [], ◌∷◌, ◌++◌, length, map, Option}
+use Rattle.std.proofs.Common.{◌≡◌, refl, sym, subst, ℕ, ◌+◌, Bool as Truth, true, false, List, [], ◌∷◌, ◌++◌, length, map, Option}
 use Rattle.std.proofs.Common.{Some, None, option_map, option_and_then, Ok}
 use Rattle.std.specs.Result.{result_ok}
 use Rattle.rg_base.specs.declared.ty.Ty.{Ty}
@@ -8,19 +8,19 @@ use Rattle.rg_tree.specs.Tree.{Path, stmt, StmtKind, declare, assign, assign_ele
 use Rattle.rg_tree.specs.Tree.{return, no_else, otherwise, Block, empty as none, then as next, Param, Method, Class}
 use Rattle.rg_rules.specs.Answers.{Answer, Lined, at_line}
 use Rattle.rg_rules.specs.Types.{type_of, method_result}
-use Rattle.rg_rules.specs.Environment.{Env, Entry, empty, with_variable}
+use Rattle.rg_rules.specs.Environment.{Env, empty, with_variable}
 use Rattle.rg_rules.specs.Items.{Item, EndAt, items_of}
-use Rattle.rg_rules.specs.Statements.{judge_kind, judge_else, judge_block, judge_test, judge_enter, last_of}
+use Rattle.rg_rules.specs.Statements.{judge_kind, judge_block, judge_test, judge_enter, last_of}
 use Rattle.rg_rules.specs.Bodies.{method_end, method_env, with_params as env_params}
-use Rattle.rg_rules.specs.Points.{Side, first, second, Point, here, behind, inside, Spot, Opened, opened, inner_block, block_end, entered_path, spot_in}
+use Rattle.rg_rules.specs.Points.{Side, first, second, Point, behind, inside, Spot, Opened, opened, inner_block, block_end, entered_path, spot_in}
 use Rattle.rg_rules.proofs.Answers.{bind-ok, at_line-ok}
 use Rattle.rg_rules.proofs.Acceptance.{Accepted-parts, Accepted-method}
 use Rattle.rg_sound.proofs.Frames.Entry.{Distinct, Stays-distinct}
 use Rattle.rg_sound.proofs.Frames.Method.{method-front}
 use Rattle.rg_sound.proofs.Frames.Judge.{judge_test-stays, judge_enter-inner, judge_kind-goes}
-use Rattle.rg_code.specs.Lowering.{Slot, Scope, with_slot, scope_behind, scope_inside, with_params, method_scope}
-use Rattle.rg_build.specs.Maps.{types_in, end_maps, inner_maps, else_maps, block_maps, is_end_marked, method_maps}
-use Rattle.rg_build.specs.Laws.{end_points, inner_points, else_points, block_points, types_at, IsMapAt, AreAt, MapsAreOfEnvironments}
+use Rattle.rg_code.specs.Lowering.{Scope, with_slot, scope_behind, scope_inside, with_params, method_scope}
+use Rattle.rg_build.specs.Maps.{types_in, inner_maps, block_maps, is_end_marked}
+use Rattle.rg_build.specs.Laws.{inner_points, block_points, IsMapAt, AreAt, MapsAreOfEnvironments}
 use Rattle.rg_build.proofs.Environments.{Matches, matches-types, matches-more, matches-stays, inside-matches, behind-matches}
 
 -- Lists of maps at points

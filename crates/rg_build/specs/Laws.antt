@@ -6,7 +6,7 @@ use Rattle.rg_tree.specs.Tree.{stmt, StmtKind, declare, assign, assign_element, 
 use Rattle.rg_tree.specs.Tree.{Name, Else, no_else, otherwise, Block, empty as none, then as next, Method, Tree}
 use Rattle.rg_rules.specs.Types.{method_named}
 use Rattle.rg_rules.specs.Environment.{Env, Entry}
-use Rattle.rg_rules.specs.Bodies.{Body, main_body, method_body}
+use Rattle.rg_rules.specs.Bodies.{main_body, method_body}
 use Rattle.rg_rules.specs.Points.{first, second, Point, here, behind, inside, env_at}
 use Rattle.rg_rules.specs.Acceptance.{Accepted}
 use Rattle.rg_code.specs.declared.op.Op.{Op}
