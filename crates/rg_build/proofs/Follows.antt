@@ -86,36 +86,37 @@ mutual
       let q = bind-ok (judge_block cs None p.0 b) _ out p.2 in
       let r = bind-ok (judge_else cs p.0 other) _ out q.2 in
       let inside = at + 1 + length (whole_code cs sc (at + 1) e) + 1 in
-      let block = block_code cs sc inside b in
-      (
+      let block = block_code cs sc inside b in (
         refl,
         goes-then (whole_code cs sc (at + 1) e)
             (i.JumpFalse (inside + length block + else_gap other) ∷ (block ++ i.Mark line ∷ i.End (length sc) ∷ else_code cs sc (inside + length block + 2) line other))
-            (whole-goes cs sc (at + 1) e)
-            (refl, goes-then block (i.Mark line ∷ i.End (length sc) ∷ else_code cs sc (inside + length block + 2) line other)
-            (block-goes cs sc inside p.0 q.0 b q.1)
-            (refl, (refl, else-goes cs sc (inside + length block + 2) line p.0 r.0 other r.1))),
+            (whole-goes cs sc (at + 1) e) (
+              refl,
+              goes-then block (i.Mark line ∷ i.End (length sc) ∷ else_code cs sc (inside + length block + 2) line other)
+                  (block-goes cs sc inside p.0 q.0 b q.1)
+                  (refl, (refl, else-goes cs sc (inside + length block + 2) line p.0 r.0 other r.1)),
+            ),
       )
   kind-goes cs sc at line env out (while e b) h =
       let p = bind-ok (at_line line (judge_test cs env e)) _ out h in
       let q = bind-ok (judge_block cs None p.0 b) _ out p.2 in
       let inside = at + 1 + length (whole_code cs sc (at + 1) e) + 1 in
-      let block = block_code cs sc inside b in
-      (
+      let block = block_code cs sc inside b in (
         refl,
         goes-then (whole_code cs sc (at + 1) e)
             (i.JumpFalse (inside + length block + 3) ∷ (block ++ i.Mark line ∷ i.End (length sc) ∷ i.Jump at ∷ []))
-            (whole-goes cs sc (at + 1) e)
-            (refl, goes-then block (i.Mark line ∷ i.End (length sc) ∷ i.Jump at ∷ []) (block-goes cs sc inside p.0 q.0 b q.1)
-            (refl, (refl, (refl, tt)))),
+            (whole-goes cs sc (at + 1) e) (
+              refl,
+              goes-then block (i.Mark line ∷ i.End (length sc) ∷ i.Jump at ∷ []) (block-goes cs sc inside p.0 q.0 b q.1)
+                  (refl, (refl, (refl, tt))),
+            ),
       )
   kind-goes cs sc at line env out (enter p z b giving) h =
       let f = bind-ok (at_line line (judge_enter cs env p.base p.fields z)) _ out h in
       let q = bind-ok (judge_block cs None f.0 b) _ out f.2 in
       let front = enter_code cs sc p.base p.fields in
       let inside = scope_inside cs sc p z in
-      let block = block_code cs inside (at + 1 + length front) b in
-      (
+      let block = block_code cs inside (at + 1 + length front) b in (
         refl,
         goes-then front (block ++ i.Mark line ∷ leave_op (scope_at_end cs inside b) (length sc) giving ∷ [])
             (enter-goes cs sc p.base p.fields)
@@ -131,8 +132,7 @@ mutual
       GoesOn (else_code cs sc at line other)
   else-goes cs sc at line env out no_else h = tt
   else-goes cs sc at line env out (otherwise b) h =
-      let block = block_code cs sc (at + 1) b in
-      (
+      let block = block_code cs sc (at + 1) b in (
         refl,
         goes-then block (i.Mark line ∷ i.End (length sc) ∷ []) (block-goes cs sc (at + 1) env out b h) (refl, (refl, tt)),
       )

@@ -96,8 +96,7 @@ mutual
       let go : Point → Env → Option Spot = λ p mid. spot_in cs result mid b after round p in
       let others = at-mapped (env_in cs result env (next (stmt line k) b) after round) (env_in cs result j.0 b after round) behind
       (block_points marked b) (block_maps cs marked (scope_behind cs ss k) b)
-      (λ p. from-mid (judge_kind cs (last_of result b) line env k) j.0 (go p) j.1) (rest after round) in
-      (
+      (λ p. from-mid (judge_kind cs (last_of result b) line env k) j.0 (go p) j.1) (rest after round) in (
         map-at env ss m,
         at-then (env_in cs result env (next (stmt line k) b) after round) (inner_points k) (map behind (block_points marked b))
             (inner_maps cs ss k) (block_maps cs marked (scope_behind cs ss k) b)
