@@ -5,7 +5,7 @@ use Rattle.rg_base.specs.declared.ty.Ty.TheVariants as ty
 use Rattle.rg_base.specs.declared.words.Cap.TheVariants as cap
 use Rattle.rg_base.specs.declared.words.Manager.TheVariants as manager
 use Rattle.rg_tree.specs.Tree.{int, bool, number, boolean, value, new, new_tmp, new_iso, result_of, declare, branch, while}
-use Rattle.rg_tree.specs.Tree.{enter, print, return, otherwise, element, Tree}
+use Rattle.rg_tree.specs.Tree.{enter, print, return, otherwise, Tree}
 use Rattle.rg_rules.proofs.Sources.{var, dot, use_of, to, call_of, block, param, field_named, method_named, class_named, program}
 use Rattle.rg_module.specs.Follows.{code_for}
 use Rattle.rg_module.specs.Spelling.{spelling}

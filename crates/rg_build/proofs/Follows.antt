@@ -9,7 +9,7 @@ use Rattle.rg_base.specs.declared.fault.Code.TheVariants.{Return}
 use Rattle.rg_base.specs.declared.ty.Ty.{Ty}
 use Rattle.rg_base.specs.declared.value.Word.{Word}
 use Rattle.rg_tree.specs.Tree.{Name, Variable, Ty as Written, int, bool, ref, Expr}
-use Rattle.rg_tree.specs.Tree.{element, Call, stmt, StmtKind}
+use Rattle.rg_tree.specs.Tree.{Call, stmt, StmtKind}
 use Rattle.rg_tree.specs.Tree.{declare, assign, assign_element, call, swap, branch, while, enter, print, collect, return, Else, no_else, otherwise}
 use Rattle.rg_tree.specs.Tree.{Block, empty as none, then as next, Method, Member, field, method, Class, Tree}
 use Rattle.rg_rules.specs.Types.{type_of, param_types}
