@@ -1,9 +1,8 @@
 -- What holds of each plan that is read (docs/architecture.md, "Plans").
-use Rattle.std.specs.Prelude.{◌≡◌, ◌≢◌, ℕ, ◌<◌, ◌≤◌, true, false, List, [], ◌∷◌, length, All, AllPairs, Some, Ok, slice_get}
+use Rattle.std.specs.Prelude.{◌≡◌, ◌≢◌, ℕ, ◌<◌, true, false, List, length, All, AllPairs, Some, Ok, slice_get}
 use Rattle.rg_tree.specs.Tree.{Name, Method, Class, Tree}
 use Rattle.rg_rules.specs.Types.{is_array, method_named}
 use Rattle.rg_names.specs.TreeAnswers.{method_number}
-use Rattle.rg_plan.specs.declared.limits.TheConstants.{COWNS, BEHAVIOURS}
 use Rattle.rg_plan.specs.declared.cown.Start.{Start}
 use Rattle.rg_plan.specs.declared.cown.Start.TheVariants.{New, Image}
 use Rattle.rg_plan.specs.declared.cown.Cown.{Cown}
