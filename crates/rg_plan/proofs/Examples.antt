@@ -3,7 +3,7 @@ use Rattle.std.proofs.Common.{◌≡◌, refl, ℕ, List, [], ◌∷◌, ◌++�
 use Prim.Native.String.{String}
 use Rattle.rg_base.specs.declared.words.Cap.TheVariants as cap
 use Rattle.rg_base.specs.declared.words.Manager.TheVariants as manager
-use Rattle.rg_tree.specs.Tree.{int, collect, Class, Tree}
+use Rattle.rg_tree.specs.Tree.{int, collect, Class}
 use Rattle.rg_rules.proofs.Sources.{to, field_named, param, method_named, class_named, array_class, program}
 use Rattle.rg_plan.specs.declared.cown.Start.TheVariants.{New, Image}
 use Rattle.rg_plan.specs.Plans.{PlanOf, Read}

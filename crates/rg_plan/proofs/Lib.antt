@@ -4,4 +4,5 @@ mod Digits
 mod Visible
 mod NameSteps
 mod OwnedSteps
+mod GoodPlans
 mod Examples

@@ -1,18 +1,17 @@
 -- Classes and members looked for by name, one after another.
-use Rattle.std.proofs.Common.{◌≡◌, ◌∙◌, refl, sym, ap, ℕ, zero, suc, ◌+◌, ◌&&◌, Bool, true, false, not, if◌then◌else◌, bytes_eq, List, [], ◌∷◌, length, map}
-use Rattle.std.proofs.Common.{drop, find, filter_map, option_map, Option, Some, None, slice_get, arith}
+use Rattle.std.proofs.Common.{◌≡◌, ◌∙◌, refl, sym, ap, ℕ, suc, ◌+◌, Bool, true, false, if◌then◌else◌, bytes_eq, List, [], ◌∷◌, length, map}
+use Rattle.std.proofs.Common.{drop, option_map, Option, Some, None, slice_get, arith}
 use Rattle.rg_base.proofs.Callers.Lists.{drop-here}
 use Rattle.rg_tree.specs.declared.rows.MemberRow.{MemberRow}
 use Rattle.rg_tree.specs.declared.rows.MemberRow.TheVariants.{Field, Method}
-use Rattle.rg_tree.specs.declared.rows.TypeRow.{TypeRow}
-use Rattle.rg_tree.specs.Tree.{Name, Ty, Class, Member, Param}
+use Rattle.rg_tree.specs.Tree.{Name, Class, Member}
 use Rattle.rg_tree.specs.Rows.Tables.{Tables, name_at, numbers_in}
 use Rattle.rg_tree.specs.Rows.RowTrees.{classes_of, member_of, param_at}
 use Rattle.rg_tree.specs.Rows.RowsExist.{IsMemberIn, IsNameIn}
 use Rattle.rg_rules.specs.Types.{class_named, class_number, type_of}
 use Rattle.rg_names.specs.declared.entry.Sig.{Sig}
 use Rattle.rg_names.specs.TreeAnswers.{class_place, MethodIs}
-use Rattle.rg_plan.specs.Lines.{is_mut, is_plain, no_params, no_result}
+use Rattle.rg_plan.specs.Lines.{is_plain, no_params, no_result}
 use Rattle.rg_plan.specs.Inner.Found.{IsBehind, name_of, method_among, no_numbers, is_plain_sig}
 
 -- what is found at the first of some classes

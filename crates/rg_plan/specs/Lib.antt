@@ -3,4 +3,5 @@ pub mod Pieces
 pub mod Plans
 pub mod Lines
 pub mod Rules
+pub mod Laws
 pub mod Inner

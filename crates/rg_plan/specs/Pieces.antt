@@ -1,5 +1,5 @@
 -- Bytes cut at each byte of one kind: a plan into its lines, and a line into its words (docs/architecture.md, "Plans").
-use Rattle.std.specs.Prelude.{ℕ, ◌==◌, Bool, true, false, List, [], ◌∷◌, Option, Some, None}
+use Rattle.std.specs.Prelude.{ℕ, ◌==◌, Bool, true, false, List, [], ◌∷◌}
 
 -- a byte in front of the first piece
 abbrev pub onto : ℕ → List (List ℕ) → List (List ℕ)

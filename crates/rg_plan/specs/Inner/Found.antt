@@ -1,12 +1,12 @@
 -- What is found of a name: a class, and a member of a class (docs/architecture.md, "Plans").
-use Rattle.std.specs.Prelude.{◌≡◌, ℕ, ◌+◌, ◌<◌, ◌&&◌, bytes_eq, Bool as Truth, true, false, List, [], ◌∷◌, length, map, drop, filter_map, find, Option}
-use Rattle.std.specs.Prelude.{Some, None, slice_get}
+use Rattle.std.specs.Prelude.{◌≡◌, ℕ, ◌+◌, ◌<◌, ◌&&◌, bytes_eq, Bool as Truth, true, false, List, [], ◌∷◌, length, drop, filter_map, find, Option}
+use Rattle.std.specs.Prelude.{Some, None}
 use Rattle.rg_tree.specs.declared.rows.MemberRow.{MemberRow}
 use Rattle.rg_tree.specs.declared.rows.MemberRow.TheVariants.{Field, Method}
 use Rattle.rg_tree.specs.Tree.{Name, Class, Member, Method as MethodTree}
 use Rattle.rg_tree.specs.Rows.Tables.{Tables, name_at, numbers_in}
-use Rattle.rg_tree.specs.Rows.RowTrees.{class_of, classes_of, member_at}
-use Rattle.rg_tree.specs.Rows.RowsExist.{IsClassIn, IsNameIn}
+use Rattle.rg_tree.specs.Rows.RowTrees.{class_of, classes_of}
+use Rattle.rg_tree.specs.Rows.RowsExist.{IsNameIn}
 use Rattle.rg_rules.specs.Types.{class_named, class_number, method_member, method_named}
 use Rattle.rg_names.specs.declared.entry.Sig.{Sig}
 use Rattle.rg_plan.specs.declared.classes.ClassAt.{ClassAt}

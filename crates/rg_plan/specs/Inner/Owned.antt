@@ -1,5 +1,5 @@
 -- The `iso` fields of members against cowns, one after another (docs/architecture.md, "Plans").
-use Rattle.std.specs.Prelude.{◌≡◌, ℕ, bytes_eq, Bool, false, List, ◌∷◌, filter_map, Option, Some, None}
+use Rattle.std.specs.Prelude.{◌≡◌, ℕ, bytes_eq, false, List, ◌∷◌, filter_map, Option, Some, None}
 use Rattle.rg_tree.specs.Tree.{Member, Class}
 use Rattle.rg_plan.specs.declared.cown.Cown.{Cown}
 use Rattle.rg_plan.specs.Lines.{owned_by, cown_classes}
