@@ -20,7 +20,7 @@ ANSWERS = {"Next": ["Trap", "Lost", "Memory"], "Outcome": ["Done", "Printed", "T
 FIELDS = {"CountedRun": ("ended", "Ended")}
 # These say yes, or tell something, only to be quick: their other answer may come at any time, and callers go the long way.
 FREE = {
-    "rg_code::CodeList::known": "None", "rg_heap::Heap::is_at_home": "false", "rg_machine::Machine::behind": "None",
+    "rg_code::CodeList::known": "None", "rg_code::CodeList::shapes": "None", "rg_heap::Heap::is_at_home": "false", "rg_machine::Machine::behind": "None",
     "rg_known::test_int": "None", "rg_known::test_slot": "None", "rg_known::operate_int": "None",
     "rg_known::operate_slot": "None", "rg_known::quick": "None",
     "rg_pace::Pacer::ask": "false",

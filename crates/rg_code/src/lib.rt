@@ -20,7 +20,7 @@ mod shapes;
 mod texts;
 mod whole;
 
-pub use code::{CodeList, Entry};
+pub use code::{CodeList, Entry, shape_among};
 pub use op::Op;
 pub use operands::{Operand, Operands, above, name_of, number_of, operands_of};
 pub use shape::Shape;

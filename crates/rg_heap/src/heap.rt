@@ -172,6 +172,7 @@ impl Heap {
     }
 
     /// Writes a field of a cell of the active region, or of a temporary.
+    #[inline(always)]
     pub fn write(&mut self, frames: &Frames, slot: usize, k: u32, w: Word)
         requires window { 0 < length frames.now.windows }
         requires key { OnTop frames.now (λ top. IsKey self.old.regions top.region) }

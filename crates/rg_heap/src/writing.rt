@@ -102,8 +102,26 @@ fn leads_nowhere(w: Word) -> bool
     }
 }
 
+// Writes a field where it or what stands there may lead to an object.
+#[inline(never)]
+fn write_leading(cells: &mut Cells, regions: &Regions, key: usize, slot: usize, k: u32, w: Word)
+    requires grove { Grove cells.old regions.now }
+    requires key { IsKey regions.now key }
+    requires width { k < width (body_at cells.old.heap slot) }
+    requires place { MayWrite cells.old.heap regions.now key slot w }
+    ensures heap { cells.new.heap ≡ with_field cells.old.heap slot k w }
+    ensures grove { Grove cells.new regions.now }
+{
+    let Manager::Count = regions.manager(key) else {
+        cells.set_field(slot, k, w);
+        return;
+    };
+    write_counted(cells, regions, key, slot, k, w);
+}
+
 /// Writes a field of a cell of the region of a key, or of a temporary. Whether the region counts
 /// isn't asked where neither what stood there nor what is written leads to an object.
+#[inline(always)]
 pub fn write_field(cells: &mut Cells, regions: &Regions, key: usize, slot: usize, k: u32, w: Word)
     requires grove { Grove cells.old regions.now }
     requires key { IsKey regions.now key }
@@ -118,9 +136,5 @@ pub fn write_field(cells: &mut Cells, regions: &Regions, key: usize, slot: usize
             return;
         }
     }
-    let Manager::Count = regions.manager(key) else {
-        cells.set_field(slot, k, w);
-        return;
-    };
-    write_counted(cells, regions, key, slot, k, w);
+    write_leading(cells, regions, key, slot, k, w);
 }

@@ -3,3 +3,4 @@ pub mod Slot
 mod Slots
 pub mod Nil
 pub mod Emptied
+pub mod Home

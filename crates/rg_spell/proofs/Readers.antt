@@ -14,7 +14,7 @@ use Rattle.rg_spell.specs.Spelling.{four, eight, signed, counted, Counted}
 use Rattle.rg_spell.specs.Laws.{IsBytes, Takes, Reads}
 use Rattle.rg_spell.specs.Reading.{◌>>=◌, number_at, signed_at, slot_at, byte_at, many_at, counted_at}
 
-IsBytes-drop : (n : ℕ) (bytes : List ℕ) → IsBytes bytes → IsBytes (drop n bytes)
+pub IsBytes-drop : (n : ℕ) (bytes : List ℕ) → IsBytes bytes → IsBytes (drop n bytes)
 IsBytes-drop n bytes h i = rw get_or-drop (h (n + i))
 
 IsBytes-take : (n : ℕ) (bytes : List ℕ) → IsBytes bytes → IsBytes (take n bytes)
@@ -173,7 +173,7 @@ reads_byte {A} of number is again = record {
 -- Many parts
 
 module _ {A : Type 0} {reader : List ℕ → Option (A × List ℕ)} {text : A → List ℕ} {Fits : A → Type 0} (one : Reads reader text Fits) where
-  many_take : (n : ℕ) (bytes : List ℕ) (x : List A × List ℕ) → IsBytes bytes → many_at reader n bytes ≡ Some x
+  pub many_take : (n : ℕ) (bytes : List ℕ) (x : List A × List ℕ) → IsBytes bytes → many_at reader n bytes ≡ Some x
       → Takes bytes (flat_map text x.0) x.1 × (length x.0 ≡ n) × AllByRecursion Fits x.0
   unfolding many_at
   many_take zero bytes x fits e =
@@ -190,7 +190,7 @@ module _ {A : Type 0} {reader : List ℕ → Option (A × List ℕ)} {text : A �
       subst (λ (y : List A × List ℕ). Takes bytes (flat_map text y.0) y.1 × (length y.0 ≡ suc n) × AllByRecursion Fits y.0) (some_is made x b.2)
       (both, ap suc second.1, (first.1, second.2))
 
-  many_again : (xs : List A) (rest : List ℕ) → AllByRecursion Fits xs → many_at reader (length xs) (flat_map text xs ++ rest) ≡ Some (xs, rest)
+  pub many_again : (xs : List A) (rest : List ℕ) → AllByRecursion Fits xs → many_at reader (length xs) (flat_map text xs ++ rest) ≡ Some (xs, rest)
   unfolding many_at
   many_again [] rest fits = refl
   many_again (x ∷ xs) rest fits =

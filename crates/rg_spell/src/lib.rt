@@ -19,9 +19,14 @@ mod tys;
 mod writing;
 
 pub use laws::parts_are_read_back;
+pub use numbers::bool_number;
 pub use ops::take_row;
-pub use reading::{take_heads, take_manager, take_shapes, take_u32};
+pub use reading::{
+    take_bool, take_byte, take_heads, take_i64, take_manager, take_shapes, take_u32, take_u64,
+};
 pub use refusal::Refusal;
 pub use rows::{Head, Shape};
 pub use tys::Tys;
-pub use writing::{write_heads, write_manager, write_row, write_shapes, write_u32};
+pub use writing::{
+    write_heads, write_i64, write_manager, write_row, write_shapes, write_u32, write_u64,
+};

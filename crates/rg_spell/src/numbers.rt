@@ -57,7 +57,7 @@ pub(crate) fn manager_of(n: u8) -> Option<Manager>
 }
 
 /// The number of a truth value.
-pub(crate) fn bool_number(b: bool) -> u8
+pub fn bool_number(b: bool) -> u8
     ensures { result ≡ bool_number b }
 {
     if b { 1 } else { 0 }

@@ -21,7 +21,7 @@ use std::alloc::Global;
 const MOST_SLOT: u32 = 256;
 
 /// A byte.
-pub(crate) fn take_byte(bytes: &[u8]) -> Option<(u8, &[u8])>
+pub fn take_byte(bytes: &[u8]) -> Option<(u8, &[u8])>
     ensures { Finds (λ x. (x.0, x.1.now)) result (byte_at bytes.now) }
 {
     match bytes {
@@ -43,7 +43,7 @@ pub fn take_u32(bytes: &[u8]) -> Option<(u32, &[u8])>
 }
 
 /// A number of eight bytes.
-pub(crate) fn take_u64(bytes: &[u8]) -> Option<(u64, &[u8])>
+pub fn take_u64(bytes: &[u8]) -> Option<(u64, &[u8])>
     ensures { Finds (λ x. (x.0, x.1.now)) result (number_at w64 bytes.now) }
 {
     if bytes.len() < 8 {
@@ -58,7 +58,7 @@ pub(crate) fn take_u64(bytes: &[u8]) -> Option<(u64, &[u8])>
 
 /// A number with a sign.
 #[tactic(auto, unfolding(crate::specs::Reading::signed_at))]
-pub(crate) fn take_i64(bytes: &[u8]) -> Option<(i64, &[u8])>
+pub fn take_i64(bytes: &[u8]) -> Option<(i64, &[u8])>
     ensures { Finds (λ x. (x.0, x.1.now)) result (signed_at bytes.now) }
 {
     let Some((number, rest)) = take_u64(bytes) else {
@@ -83,7 +83,7 @@ pub(crate) fn take_slot(bytes: &[u8]) -> Option<(u32, &[u8])>
 
 /// A truth value.
 #[tactic(auto, unfolding(crate::specs::Reading::bool_at))]
-pub(crate) fn take_bool(bytes: &[u8]) -> Option<(bool, &[u8])>
+pub fn take_bool(bytes: &[u8]) -> Option<(bool, &[u8])>
     ensures { Finds (λ x. (x.0, x.1.now)) result (bool_at bytes.now) }
 {
     let Some((number, rest)) = take_byte(bytes) else {

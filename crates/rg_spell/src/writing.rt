@@ -26,16 +26,16 @@ pub fn write_u32(n: u32, out: &mut ByteList) -> Result<(), Memory>
     out.extend(&n.to_be_bytes())
 }
 
-// Appends a number of eight bytes.
-fn write_u64(n: u64, out: &mut ByteList) -> Result<(), Memory>
+/// Appends a number of eight bytes.
+pub fn write_u64(n: u64, out: &mut ByteList) -> Result<(), Memory>
     ensures ok { OnOk result (out.new ≡ out.old ++ eight n) }
     ensures err { OnErr result (out.new ≡ out.old) }
 {
     out.extend(&n.to_be_bytes())
 }
 
-// Appends a number with a sign.
-fn write_i64(z: i64, out: &mut ByteList) -> Result<(), Memory>
+/// Appends a number with a sign.
+pub fn write_i64(z: i64, out: &mut ByteList) -> Result<(), Memory>
     ensures ok { OnOk result (out.new ≡ out.old ++ signed z) }
     ensures err { OnErr result (out.new ≡ out.old) }
 {

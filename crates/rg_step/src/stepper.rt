@@ -29,6 +29,7 @@ use rg_frames::Frames;
 use rg_heap::{Active, Heap};
 use rg_input::Numbers;
 use rg_io::Source;
+use rg_known::Stack;
 use rg_machine::Machine;
 use rg_pace::Pacer;
 use std::alloc::Global;
@@ -40,6 +41,8 @@ use std::marker::Model;
 pub struct Stepper {
     machine: Option<Machine>,
     kept: Kept,
+    // lent to known steps that compute, so that it is made once
+    stack: Stack,
 }
 
 impl Model for Stepper {
@@ -67,6 +70,7 @@ impl Stepper {
                 slides: false,
                 events: Vec::new(alloc),
             },
+            stack: Stack::new(),
         }
     }
 
@@ -212,7 +216,7 @@ impl Stepper {
         let Some(p) = &mut self.machine else {
             unreachable!();
         };
-        let made = leap(p, code, most);
+        let made = leap(p, &mut self.stack, code, most);
         self.kept.steps = more(self.kept.steps, made);
         made
     }

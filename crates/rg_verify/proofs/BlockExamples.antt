@@ -1,6 +1,7 @@
 -- Blocks with their code and their names, and told from their code, computed.
-use Rattle.std.proofs.Common.{◌≡◌, ℕ, pos, false, true, List, [], ◌∷◌, ◌++◌, replicate, Some, None, codes, refl}
+use Rattle.std.proofs.Common.{◌≡◌, ℕ, pos, false, true, List, [], ◌∷◌, ◌++◌, replicate, Some, None, codes, refl, arith}
 use Prim.Native.String.{String}
+use Rattle.std.proofs.lemmas.Bool.{false≢true}
 use Rattle.std.specs.Fmt.{digits}
 use Rattle.rg_base.specs.declared.words.Cap.TheVariants as cap
 use Rattle.rg_base.specs.declared.words.Manager.TheVariants as manager
@@ -20,6 +21,7 @@ use Rattle.rg_verify.specs.Statements.{next, block_ops}
 use Rattle.rg_verify.specs.Found.{block_named, IsBlockFound}
 use Rattle.rg_verify.specs.Raising.{walk, raised}
 use Rattle.rg_verify.specs.Blocks.{Given, block_told}
+use Rattle.rg_verify.specs.Standing.{block_depth, BlockStand}
 
 -- statements that all stand on line 1
 abbrev in_line : List Kind → Block
@@ -359,3 +361,88 @@ giving-found = (
   (refl, (refl, tt)),
   ((record { path = (refl, tt); class = refl }, ((refl, (refl, tt)), tt), refl), tt),
 )
+
+-- Blocks that stand where they are told, and what their code alone doesn't tell
+
+loop-stands : BlockStand (loop_given 27 6) [] 0 loop 27
+loop-stands = record {
+  code = record { parts = refl; place = refl };
+  fits = (
+    (tt, refl),
+    (λ e. absurd (false≢true e)),
+    (
+      (tt, refl),
+      (λ e. absurd (false≢true e)),
+      (
+        (
+          (tt, refl),
+          (λ e. absurd (false≢true e)),
+          (
+            (tt, (λ e. absurd (omega (arith, e)))),
+            (λ e. absurd (false≢true e)),
+            ((tt, (λ e. absurd (omega (arith, e)))), (λ e. absurd (false≢true e)), tt),
+          ),
+        ),
+        (λ e. absurd (false≢true e)),
+        tt,
+      ),
+    ),
+  );
+  closes = ((1, refl), refl);
+}
+
+choice-stands : BlockStand (choice_given i.Drop) (iso ∷ mut ∷ []) 0 choice 28
+choice-stands = record {
+  code = record { parts = refl; place = refl };
+  fits = (
+    (
+      (refl, (λ e. absurd (false≢true e)), tt),
+      (refl, (λ e. absurd (false≢true e)), (refl, (λ e. absurd (false≢true e)), tt)),
+    ),
+    (λ e. absurd (false≢true e)),
+    tt,
+  );
+  closes = ((9, refl), refl);
+}
+
+-- the map in front of a window's block has the class of the bridge
+giving-stands : BlockStand (record {
+  ops = giving_ops ++ i.Mark 1 ∷ i.End 0 ∷ i.Halt ∷ [];
+  maps = [] ∷ [] ∷ [] ∷ (iso ∷ []) ∷ [] ∷ (iso ∷ mut ∷ []) ∷ [] ∷ [] ∷ [] ∷ (iso ∷ mut ∷ mut ∷ []) ∷ [];
+  methods = [];
+}) [] 0 giving 11
+giving-stands = record {
+  code = record { parts = refl; place = refl };
+  fits = (
+    (tt, refl),
+    (λ e. absurd (false≢true e)),
+    ((refl, ((tt, refl), (λ e. absurd (false≢true e)), tt)), (λ e. absurd (false≢true e)), tt),
+  );
+  closes = ((1, refl), refl);
+}
+
+depths : (block_depth empty ≡ 1) × (block_depth loop ≡ 2) × (block_depth choice ≡ 2)
+depths = (refl, refl, refl)
+
+-- `v0 = 7` into the slot that comes next has the code of `let v0: int = 7`
+let-code : block_ops [] 0 (in_line (assign 0 (value (number (pos 7))) ∷ []))
+    ≡ block_ops [] 0 (in_line (declare ty.Int (value (number (pos 7))) ∷ []))
+let-code = refl
+
+-- of two types a `let` has the one of the map
+let-types : block_ops [] 0 (in_line (declare mut (value nil) ∷ [])) ≡ block_ops [] 0 (in_line (declare mut_row (value nil) ∷ []))
+let-types = refl
+
+-- a call has the code of one of another result
+call-code : block_ops (mut ∷ []) 0 (in_line (call (record { slot = 0; fields = []; callee = pops; args = [] }) ∷ []))
+    ≡ block_ops (mut ∷ []) 0 (in_line (call (record { slot = 0; fields = []; callee = record pops { result = Some ty.Int }; args = [] }) ∷ []))
+call-code = refl
+
+-- behind `return` the block has ended
+return-told : block_told (record {
+  ops = i.Mark 1 ∷ i.Int (pos 7) ∷ i.Ret ∷ i.Mark 1 ∷ i.Collect ∷ i.Mark 1 ∷ i.End 0 ∷ i.Halt ∷ [];
+  maps = [];
+  methods = [];
+}) 64 [] 0 ≡ Some (in_line (return (number (pos 7)) ∷ []), 3)
+unfolding block_told raised walk
+return-told = refl

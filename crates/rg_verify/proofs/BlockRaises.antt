@@ -151,7 +151,7 @@ module _ (g : Given) where
       subst (λ (n : ℕ). Piece g.ops at (dropped_code (Some t)) n) (same_Some _ _ h2)
       (piece-is g.ops (left-code (is_iso t) owns is) (sign-piece g left-is at owns there))
 
-  ended-piece : {of : Op → Option ℕ} {op : ℕ → Op} → ((o : Op) (x : ℕ) → of o ≡ Some x → o ≡ op x) → (line n at end : ℕ)
+  pub ended-piece : {of : Op → Option ℕ} {op : ℕ → Op} → ((o : Op) (x : ℕ) → of o ≡ Some x → o ≡ op x) → (line n at end : ℕ)
       → ended of g.ops line n at ≡ Some end → Piece g.ops at (i.Mark line ∷ op n ∷ []) end
   ended-piece {of = of} {op = op} tells line n at end h =
       let (l, le, h1) = bind-some (sign mark_of g.ops at) _ end h in

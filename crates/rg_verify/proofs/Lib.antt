@@ -19,3 +19,8 @@ mod Examples
 mod BlockExamples
 mod Pieces
 pub mod BlockRaises
+mod Reading
+mod RightsAgain
+mod KindsAgain
+mod BlocksAgain
+pub mod ToldStands

@@ -9,4 +9,5 @@ pub mod Statements
 pub mod Found
 pub mod Signs
 pub mod Blocks
+pub mod Standing
 pub mod Inner

@@ -4,6 +4,7 @@
 ghost use Rattle.rg_verify.specs.Blocks.{RaisedBlocksStand};
 ghost use Rattle.rg_verify.specs.Found.{BlocksHaveTheirCode};
 ghost use Rattle.rg_verify.specs.Raises.{StandOnce, HaveTheirCode};
+ghost use Rattle.rg_verify.specs.Standing.{BlocksAreTold, BlocksStandOnce, StandingBlocksAreTold};
 
 /// Instructions begin with the code of at most one list of expressions, objects and places.
 pub fn expressions_stand_once()
@@ -23,4 +24,19 @@ pub fn blocks_have_their_code()
 /// The block that is raised at an address has the code that stands there.
 pub fn raised_blocks_stand()
     ensures { RaisedBlocksStand }
+{}
+
+/// Each block that stands at an address is the one that is raised there.
+pub fn standing_blocks_are_told()
+    ensures { StandingBlocksAreTold }
+{}
+
+/// At most one block stands at an address.
+pub fn blocks_stand_once()
+    ensures { BlocksStandOnce }
+{}
+
+/// What raising tells at an address is the block that stands there, or none does.
+pub fn blocks_are_told()
+    ensures { BlocksAreTold }
 {}

@@ -7,8 +7,10 @@
 //! (`raised_have_their_code`);
 //! so have blocks of statements (`blocks_have_their_code` in `specs/Found`, with the code of
 //! `specs/Statements`). How blocks are raised is a definition (`block_told` in `specs/Blocks`);
-//! what it tells has the code that stands there (`raised_blocks_stand`). No call raises blocks yet,
-//! nor are maps and heads tested. All else is private.
+//! what it tells has the code that stands there (`raised_blocks_stand`), and it tells each block
+//! that stands there (`standing_blocks_are_told`, with `BlockStand` of `specs/Standing`): at most
+//! one (`blocks_stand_once`), or none (`blocks_are_told`). No call raises blocks yet, nor are maps
+//! and heads tested. All else is private.
 #![tactic(auto)]
 
 mod body;
@@ -28,7 +30,8 @@ pub use callee::Callee;
 pub use expressions::raise_expressions;
 pub use front::FrontRow;
 pub use laws::{
-    blocks_have_their_code, expressions_stand_once, raised_blocks_stand, raised_have_their_code,
+    blocks_are_told, blocks_have_their_code, blocks_stand_once, expressions_stand_once,
+    raised_blocks_stand, raised_have_their_code, standing_blocks_are_told,
 };
 pub use part::{Junction, Part, part_of};
 pub use refusal::Refusal;

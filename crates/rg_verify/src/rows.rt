@@ -28,12 +28,7 @@ fn name_text(alloc: Global, letter: u8, n: u32) -> Result<ByteList, Memory>
 }
 
 /// Adds the name that is a letter and a number.
-pub fn add_name(
-    alloc: Global,
-    program: &mut Program,
-    letter: u8,
-    n: u32,
-) -> Result<u32, Memory>
+pub fn add_name(alloc: Global, program: &mut Program, letter: u8, n: u32) -> Result<u32, Memory>
     ensures adds { IfOk result (λ k.
         Adds name_at IsNameIn program.old program.new k (letter ∷ decimal n)) }
     ensures grows { Extends program.old program.new }

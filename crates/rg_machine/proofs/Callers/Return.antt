@@ -13,7 +13,7 @@ use Rattle.rg_stack.proofs.Callers.List.{empty-is}
 use Rattle.rg_held.specs.Frees.{free_act, freed, given_up}
 use Rattle.rg_machine.specs.declared.next.Next.TheVariants as next
 use Rattle.rg_machine.specs.Core.{Core, ActIs, Has, with_machine, work_of}
-use Rattle.rg_machine.specs.Effects.{AllLoose, emptied, ending}
+use Rattle.rg_machine.specs.Effects.{AllLoose, ending}
 use Rattle.rg_machine.specs.Frames.{Went, may_go, may_return}
 use Rattle.rg_machine.specs.Keeps.{GoesBack, SameBacks, backs}
 
@@ -105,24 +105,6 @@ pub went-back : (old mid new : Core) (back : ℕ) → SameBacks old.machine mid.
 went-back old mid new back same went =
     same-back old.machine.frames mid.machine.frames back same
     (subst (λ (fs : List Frame). GoesBack fs back) (sym went.were) went.back_is)
-
--- the slots of the frame that goes don't matter
-pub went-emptied : (mid new : Core) (back : ℕ) → Went mid new back → Went (emptied mid 0) new back
-went-emptied mid new back w =
-    let vs = ended_slots 0 (top_slots mid.machine.frames) in
-    record {
-      top = record w.top { slots = vs };
-      caller = w.caller;
-      others = w.others;
-      were = ap (with_slots vs) w.were;
-      are = w.are;
-      back_is = w.back_is;
-      free = w.free;
-    }
-
--- nor do those of one that stays
-pub stays-emptied : (mid : Core) → may_go mid.machine ≡ false → may_go (emptied mid 0).machine ≡ false
-stays-emptied mid e = may-other (ended_slots 0 (top_slots mid.machine.frames)) mid.machine.frames mid.machine.windows ∙ e
 
 -- Effects
 

@@ -1,5 +1,5 @@
 -- Slots of the topmost frame that are nil, and words that stood there.
-use Rattle.std.proofs.Common.{◌≡◌, ◌<◌, ◌≤◌, inl, inr, ℕ, zero, suc, ◌+◌, ◌-◌, true, List, [], ◌∷◌, ◌++◌, Some}
+use Rattle.std.proofs.Common.{◌≡◌, ◌<◌, ◌≤◌, inl, inr, ℕ, zero, suc, ◌+◌, ◌-◌, true, List, [], ◌∷◌, ◌++◌, None, Some}
 use Rattle.std.proofs.Common.{length, take, drop, replicate, reverse, slice_get, slice_set, refl, sym, ap, ◌∙◌, subst, arith}
 use Rattle.std.proofs.lemmas.Bool.{false≢true, cases_lt as order}
 use Rattle.std.proofs.lemmas.List.{length-replicate}
@@ -12,7 +12,8 @@ use Rattle.rg_cells.specs.Table.{Serials}
 use Rattle.rg_regions.specs.Grove.{Grove}
 use Rattle.rg_frames.specs.Stack.{Stack, InTop, ended, with_slot}
 use Rattle.rg_stack.specs.Machine.{Frame, end_slots, ended_slots, put_slot, slot_at, top_slots, with_slots}
-use Rattle.rg_stack.specs.Needs.{owned_once}
+use Rattle.rg_stack.specs.Needs.{closed_into, owned_once}
+use Rattle.rg_heap.specs.Answers.{LeadsIntoClosed}
 use Rattle.rg_heap.specs.Parts.{Parts as HeapParts}
 use Rattle.rg_view.specs.Lain.{Nested}
 use Rattle.rg_view.specs.View.{frames_of}
@@ -29,7 +30,7 @@ use Rattle.rg_machine.specs.Keeps.{backs}
 use Rattle.rg_machine.specs.Parts.{Parts, machine_in, val_in}
 use Rattle.rg_machine.specs.Cores.{core_of}
 use Rattle.rg_machine.specs.Stands.{AllLead, Leads, Stands}
-use Rattle.rg_machine.proofs.Release.Effect.{Asked, core-same}
+use Rattle.rg_machine.proofs.Release.Effect.{Asked, closed-none, core-same, filter-none}
 use Rattle.rg_machine.proofs.End.Slots.{ended-more, ended-none, ending-none, nil-again}
 use Rattle.rg_machine.proofs.Release.Fewer.{fewer-all, fewer-nil, fewer-once, fewer-without, once-nil}
 use Rattle.rg_machine.proofs.End.Slot.{asked-slot, backs-slot, behind-slot, bounded, slot-nil}
@@ -243,3 +244,14 @@ module _ (p : Parts) (q : Serials p.heap.cells.heap) (g : Grove p.heap.cells p.h
       → backs (machine_in new).frames ≡ backs (machine_in p).frames
   backs-taken new f =
       backs-slot p (record p { frames = v }) w k (bounded p q g s) once all (slot-shown p s k w e) refl put-taken new f
+
+-- A slot that owns nothing
+
+pub nil-home : (p : Parts) → Serials p.heap.cells.heap → Grove p.heap.cells p.heap.regions → Stands p.heap p.frames → (k : ℕ) (w : Word)
+    → slice_get p.frames.slots (p.frames.first + k) ≡ Some w → (LeadsIntoClosed p.heap p.frames w → ⊥) → (v : Stack)
+    → v ≡ with_slot p.frames k Nil → core_of (record p { frames = v }) ≡ next-core (core_of p) k
+nil-home p q g s k w e out v is =
+    let u = slot_at (machine_in p) k in
+    let none = subst (λ u. closed_into (machine_in p) u ≡ None) (slot-shown p s k w e) (closed-none p w q g s out) in
+    ap (λ v. core_of (record p { frames = v })) is ∙ nil-core p k
+    ∙ ap (λ c. slot-nil c k) (core-same p q g s (u ∷ []) (filter-none (closed_into (machine_in p)) u none))

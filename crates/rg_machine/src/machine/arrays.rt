@@ -97,7 +97,7 @@ impl Machine {
     }
 
     /// Writes the element that a word names in the array to which another leads, as `putelem` does.
-    #[inline]
+    #[inline(always)]
     pub fn put_element(&mut self, r: Word, index: Word, w: Word)
         requires object { Leads self.old.heap self.old.frames r }
         requires leads { Leads self.old.heap self.old.frames w }

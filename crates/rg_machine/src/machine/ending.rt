@@ -1,9 +1,11 @@
 //! What ends with slots, and what they own (docs/architecture.md, "The machine").
 
-ghost use Rattle.std.specs.Prelude.{◌≡◌, ◌<◌, ◌∷◌, [], Some, length};
-ghost use Rattle.std.specs.Prelude.{true};
+ghost use Rattle.std.specs.Prelude.{◌≡◌, ◌<◌, ◌≤◌, ◌+◌, ◌∷◌, [], Some, length};
+ghost use Rattle.std.specs.Prelude.{true, false};
 ghost use Rattle.rg_base.specs.declared.value.Val.TheVariants.{Nil};
+ghost use Rattle.rg_base.specs.declared.value.Word.TheVariants.{Nil as NilWord};
 ghost use Rattle.rg_code.specs.declared.op.Op.TheVariants as i;
+ghost use Rattle.rg_frames.specs.Stack.{ended, with_slot};
 ghost use Rattle.rg_stack.specs.Machine.{put_slot, slot_at, top_slots};
 ghost use Rattle.rg_stack.specs.Needs.{loose, owned_once};
 ghost use Rattle.rg_machine.specs.Acts.{Does};
@@ -96,8 +98,8 @@ impl Machine {
         self.drop_nth(k);
     }
 
-    /// What the slots of the topmost frame from one on own goes; they are to end or to go.
-    pub(super) fn release_from(&mut self, s: u32)
+    /// What the slots of the topmost frame from one on own goes; they are to end.
+    fn release_from(&mut self, s: u32)
         requires { MayEnd self.old }
         ensures ended { emptied (core_of self.new) s ≡ ending (core_of self.old) s }
         ensures words { self.new.words ≡ self.old.words }
@@ -115,6 +117,27 @@ impl Machine {
         }
     }
 
+    /// Makes nil a slot of the topmost frame that owns nothing; answers whether that is known.
+    #[inline(always)]
+    fn end_nth(&mut self, k: usize) -> bool
+        requires there { k < length (top_slots (machine_in self.old).frames) }
+        ensures gone { result ≡ true → core_of self.new ≡ with_machine (core_of self.old)
+            (put_slot (without (core_of self.old)
+            (slot_at (machine_in self.old) k ∷ [])).machine k Nil) }
+        ensures nil { result ≡ true → self.new.frames ≡ with_slot self.old.frames k NilWord }
+        ensures words { self.new.words ≡ self.old.words }
+        ensures heap { self.new.heap ≡ self.old.heap }
+        ensures stays { result ≡ false → self.new ≡ self.old }
+    {
+        self.heap.is_forest();
+        let w = self.frames.nth_word(k);
+        if self.heap.is_at_home(&self.frames, w) {
+            let _ = self.frames.take_word(k);
+            return true;
+        }
+        false
+    }
+
     /// What the slots of the topmost frame from one on own goes, and they are nil.
     #[inline]
     pub fn end_from(&mut self, s: u32)
@@ -130,12 +153,38 @@ impl Machine {
         if live <= s as usize {
             return;
         }
-        self.end_written(s);
+        self.end_written(s, live);
     }
 
-    /// The same, also where some of them were written.
+    /// The same, also where some of them were written: each is made nil as it is looked at, from
+    /// the last one down to the first that may own something.
     #[inline(never)]
-    fn end_written(&mut self, s: u32)
+    fn end_written(&mut self, s: u32, live: usize)
+        requires may { MayEnd self.old }
+        requires some { s < live }
+        requires nil { ended self.old.frames live ≡ self.old.frames }
+        requires within { self.old.frames.first + live ≤ length self.old.frames.slots }
+        ensures ended { core_of self.new ≡ ending (core_of self.old) s }
+        ensures words { self.new.words ≡ self.old.words }
+        ensures backs { SameBacks (machine_in self.old) (machine_in self.new) }
+        ensures high { NoneMade self.old.heap self.new.heap }
+    {
+        self.heap.is_forest();
+        let mut left = live;
+        'slots: while left > s as usize {
+            if !self.end_nth(left - 1) {
+                self.heap.is_forest();
+                self.end_owning(s);
+                return;
+            }
+            left -= 1;
+        }
+        self.frames.settle(s);
+    }
+
+    /// The same, also where some of them own something: two looks at each.
+    #[inline(never)]
+    fn end_owning(&mut self, s: u32)
         requires { MayEnd self.old }
         ensures ended { core_of self.new ≡ ending (core_of self.old) s }
         ensures words { self.new.words ≡ self.old.words }

@@ -37,7 +37,7 @@ impl Machine {
     }
 
     /// Writes a field of the object to which a word leads, as `put k` does.
-    #[inline]
+    #[inline(always)]
     pub fn put(&mut self, r: Word, index: u32, w: Word)
         requires object { Leads self.old.heap self.old.frames r }
         requires leads { Leads self.old.heap self.old.frames w }

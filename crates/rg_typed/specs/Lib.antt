@@ -1,0 +1,2 @@
+-- Which contents fit a program (docs/architecture.md, "Cargo").
+pub mod Typed
