@@ -2,6 +2,7 @@
 
 ghost use Rattle.std.specs.Prelude.{◌≡◌, Bool as Truth, List};
 ghost use Rattle.rg_tree.specs.Rows.Tables.{Tables};
+ghost use Rattle.rg_tree.specs.Adds.{Extends};
 ghost use Rattle.rg_code.specs.declared.op.Op.{Op};
 ghost use Rattle.rg_verify.specs.Raised.{Front as OneFront};
 ghost use Rattle.rg_raise.specs.Fronts.{AreFrontRows, AreFrontsAt, AreLeft, MakesFronts, TakesFront};
@@ -15,13 +16,14 @@ use rg_tree::Program;
 use rg_verify::{Body, FrontRow, Refusal, raise_expressions};
 
 /// The fronts whose code stands at an address.
-pub(crate) fn raise_fronts(
+pub fn raise_fronts(
     body: Body,
     program: &mut Program,
     code: &CodeList,
     from: usize,
 ) -> Result<Fronts, Refusal>
-    ensures { MakesFronts program.old program.new body.in_method code.now.ops from result }
+    ensures told { MakesFronts program.old program.new body.in_method code.now.ops from result }
+    ensures grows { Extends program.old program.new }
 {
     if from > code.len() {
         let rows = Vec::new(body.alloc);
@@ -55,7 +57,7 @@ fn start_by(code: &CodeList, first: Option<FrontRow>, stretch: Stretch) -> usize
 }
 
 /// Takes the first of the fronts at an address.
-pub(crate) fn take_first(code: &CodeList, fronts: &mut Fronts) -> Option<FrontRow>
+pub fn take_first(code: &CodeList, fronts: &mut Fronts) -> Option<FrontRow>
     ensures takes { (t : Tables) (m : Truth) (fs : List OneFront) →
         AreFrontsAt t m code.now.ops fronts.old fs →
         TakesFirst t m code.now.ops fronts.new fs result }
