@@ -1,5 +1,5 @@
 -- Which bytes are the image of a content of a program, and what reading an image answers (docs/architecture.md, "Images").
-use Rattle.std.specs.Prelude.{◌≡◌, ⊤, ¬◌, ℕ, List, Option, None, Some, Result, Ok, Err}
+use Rattle.std.specs.Prelude.{◌≡◌, ⊤, ℕ, List, Option, None, Some, Result, Ok, Err}
 use Rattle.rg_tree.specs.Tree.{Tree}
 use Rattle.rg_cown.specs.Cargo.{CargoList, SoundCargo}
 use Rattle.rg_typed.specs.Typed.{TypedCargo}

@@ -20,7 +20,7 @@ use std::alloc::Global;
 
 /// The image of a content.
 pub fn encode(alloc: Global, content: Option<&Cargo>) -> Result<ByteList, Memory>
-    ensures { IfOk result (λ bytes. bytes ≡ image_text (option_map (λ c. c.now) content)) }
+    ensures { IfOk result (λ bytes. bytes ≡ image_text (option_map (λ c. c.now) content.entry)) }
 {
     let mut out = ByteList::new(alloc);
     out.extend(b"RGI1")?;

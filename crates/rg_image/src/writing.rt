@@ -97,7 +97,7 @@ fn write_cargo(cargo: &Cargo, out: &mut ByteList) -> Result<(), Memory>
 
 /// Appends a content.
 pub(crate) fn write_content(content: Option<&Cargo>, out: &mut ByteList) -> Result<(), Memory>
-    ensures { OnOk result (out.new ≡ out.old ++ content_bytes (option_map (λ c. c.now) content)) }
+    ensures { OnOk result (out.new ≡ out.old ++ content_bytes (option_map (λ c. c.now) content.entry)) }
 {
     match content {
         None => out.push(0),
