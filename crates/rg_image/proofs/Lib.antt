@@ -4,4 +4,5 @@ mod Whole
 mod Loops
 mod NumbersGiven
 mod Counts
+mod Ranges
 mod Examples

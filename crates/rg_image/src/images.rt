@@ -1,11 +1,12 @@
 //! A content as bytes, and back (docs/architecture.md, "Images").
 
 ghost use Rattle.std.specs.Prelude.{◌≡◌, IfOk, Option, option_map};
+ghost use Rattle.rg_tree.specs.Tree.{Tree};
 ghost use Rattle.rg_tree.specs.Rows.RowTrees.{program_of};
 ghost use Rattle.rg_names.specs.TableOf.{IsTableOf};
 ghost use Rattle.rg_cown.specs.Cargo.{CargoList};
 ghost use Rattle.rg_image.specs.ImageText.{image_text};
-ghost use Rattle.rg_image.specs.Images.{IsImage, Decodes, Answers};
+ghost use Rattle.rg_image.specs.Images.{IsContent, IsImage, Decodes, Answers};
 
 use crate::reading::read;
 use crate::refusal::Refusal;
@@ -18,9 +19,11 @@ use rg_tree::Program;
 use rg_typed::is_typed;
 use std::alloc::Global;
 
-/// The image of a content.
+/// The image of a content. What a program may hold is read back from it by `decode`.
 pub fn encode(alloc: Global, content: Option<&Cargo>) -> Result<ByteList, Memory>
-    ensures { IfOk result (λ bytes. bytes ≡ image_text (option_map (λ c. c.now) content.entry)) }
+    ensures text { IfOk result (λ bytes. bytes ≡ image_text (option_map (λ c. c.now) content.entry)) }
+    ensures image { let held = option_map (λ c. c.now) content.entry in
+        IfOk result (λ bytes. (t : Tree) → IsContent t held → IsImage t bytes held) }
 {
     let mut out = ByteList::new(alloc);
     out.extend(b"RGI1")?;
