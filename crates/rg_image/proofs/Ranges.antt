@@ -2,6 +2,7 @@
 use Rattle.std.proofs.Common.{◌≡◌, ℕ, ◌+◌, ◌≤◌, Bool as Truth, true, false, ◌&&◌, List, [], ◌∷◌, length, drop, slice_get, Option, Some, None}
 use Rattle.std.proofs.Common.{option_and_then, refl, sym, subst}
 use Rattle.std.specs.List.{AllByRecursion, list_all, range_with_len}
+use Rattle.std.proofs.lemmas.Bool.{false≢true}
 use Rattle.std.proofs.lemmas.List.{drop_all}
 use Rattle.rg_base.proofs.Callers.Lists.{drop-here}
 use Rattle.rg_base.specs.declared.object.Label.{Label}
@@ -20,7 +21,7 @@ ranges-next P xs k x there holds rest = subst (AllByRecursion P) (sym (drop-here
 
 -- no part is left
 pub ranges-end : {X : Type 0} (P : X → Type 0) (xs : List X) (k : ℕ) → length xs ≤ k → AllByRecursion P (drop k xs)
-ranges-end P xs k le = subst (AllByRecursion P) (sym (drop_all xs k le)) tt
+ranges-end P xs k le = subst (AllByRecursion P) (sym (drop_all k xs le)) tt
 
 -- a label that has a number among regions isn't a temporary's
 label_fits : (n m : ℕ) (l : Label) → region_named n l ≡ Some m → RangedLabel l → FitsLabel l
@@ -42,14 +43,13 @@ cells_fit n m (c ∷ cs) e ranged =
 
 comes : (n : ℕ) (o : Option ℕ) → comes_to n o ≡ true → (m : ℕ) × (o ≡ Some m)
 comes n (Some m) e = (m, refl)
-comes n None e = absurd cc
+comes n None e = absurd (false≢true e)
 
 third : (a b c d e : Truth) → (a && b && c && d && e) ≡ true → c ≡ true
 third a b true d e h = refl
-third true true false d e h = absurd cc
-third true false false d e h = absurd cc
-third false true false d e h = absurd cc
-third false false false d e h = absurd cc
+third true true false d e h = h
+third true false false d e h = h
+third false b false d e h = h
 
 cargo_fits : (c : CargoList) → SoundCargo c → RangedCargo c → FitsCargo c
 cargo_fits c sound ranged =
