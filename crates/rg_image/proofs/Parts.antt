@@ -65,7 +65,7 @@ module _ {A : Type 0} {reader : List ℕ → Option (A × List ℕ)} {text : A �
   counted_again xs rest fits =
       let behind : List ℕ = flat_map text xs ++ rest in
       let regrouped : counted text xs ++ rest ≡ eight (length xs) ++ behind = append_assoc (eight (length xs)) (flat_map text xs) rest in
-      let there : ltb (length behind) (length xs) ≡ false = le-ltb _ _ (omega (arith, as_many xs, length-append (flat_map text xs) rest)) in
+      let there : ltb (length (flat_map text xs ++ rest)) (length xs) ≡ false = le-ltb _ _ (omega (arith, as_many xs, length-append (flat_map text xs) rest)) in
       ap (counted_at reader) regrouped
       ∙ ap (λ r. (r >>= λ (n : ℕ × List ℕ). cond (ltb (length n.1) n.0) None (Some n)) >>= λ (n : ℕ × List ℕ). many_at reader n.0 n.1)
       (reads_eight.again (length xs) behind fits.0)

@@ -88,13 +88,19 @@ fn count_all(cells: &[CargoCell], counts: &mut Vec<u8>)
     }
 }
 
+// How many fields enter a region.
+fn wanted(region: usize) -> u8
+    ensures { result ≡ (if region == 0 then 0 else 1) }
+{
+    if region == 0 { 0 } else { 1 }
+}
+
 // Whether as many enter each region as may.
 fn are_right(counts: &[u8]) -> bool
     ensures { result ≡ are_right 0 counts.now }
 {
     for region in 0..counts.len() {
-        let wanted = if region == 0 { 0 } else { 1 };
-        if counts[region] != wanted {
+        if counts[region] != wanted(region) {
             return false;
         }
     }
