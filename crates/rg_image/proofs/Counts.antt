@@ -95,7 +95,7 @@ not_true : (b : Truth) → not b ≡ true → b ≡ false
 not_true true e = absurd cc
 not_true false e = refl
 
-outside : (own same : Truth) → (same ≡ true → own ≡ false) → cond same 1 0 ≡ cond own 0 (cond same 1 0)
+outside : (own same : Truth) → (same ≡ true → own ≡ false) → ◌≡◌ {A = ℕ} (cond same 1 0) (cond own 0 (cond same 1 0))
 outside true true h = absurd (false≢true (sym (h refl)))
 outside true false h = refl
 outside false same h = refl
@@ -104,7 +104,7 @@ one-count : (cells : List CargoCell) (r object region : ℕ) → label_of cells 
     → cond (region == r) 1 0 ≡ count_by (leads_into cells r) (Obj object ∷ [])
 one-count cells r object region e =
     let one = sum_by-cons (λ x. cond (leads_into cells r x) 1 0) (Obj object) [] in
-    let here : cond (leads_into cells r (Obj object)) 1 0 ≡ cond (region == r) 1 0 = ap (λ l. cond (is_in r l) 1 0) e in
+    let here : ◌≡◌ {A = ℕ} (cond (leads_into cells r (Obj object)) 1 0) (cond (region == r) 1 0) = ap (λ l. cond (is_in r l) 1 0) e in
     let none : cond (leads_into cells r (Obj object)) 1 0 + 0 ≡ cond (leads_into cells r (Obj object)) 1 0 = omega arith in
     sym (one ∙ none ∙ here)
 
@@ -170,7 +170,7 @@ not_false : (b : Truth) → not b ≡ false → b ≡ true
 not_false true e = refl
 not_false false e = absurd cc
 
-same_region : (q r region : ℕ) → q ≡ region → (b : Truth) → q == r ≡ b → cond b 0 (cond (region == r) 1 0) ≡ 0
+same_region : (q r region : ℕ) → q ≡ region → (b : Truth) → q == r ≡ b → ◌≡◌ {A = ℕ} (cond b 0 (cond (region == r) 1 0)) 0
 same_region q r region e true t = refl
 same_region q r region e false t = ap (λ c. cond c 1 0) (ap (λ (z : ℕ). z == r) (sym e) ∙ t)
 

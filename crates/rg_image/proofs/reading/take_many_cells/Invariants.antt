@@ -7,5 +7,5 @@ use Rattle.rg_image.proofs.reading.take_many_cells.Given as goal
 abbrev pub invariant-loop : goal.invariant-loop
 invariant-loop l = record {
   read : with_front l.cargo.cells (many_at cell_at (l.count - l.counter) l.rest) ≡ many_at cell_at l.count l.bytes;
-  managers : l.cargo.managers ≡ l.managers.managers;
+  managers : l.cargo.managers ≡ l.fn.managers.managers;
 }
