@@ -10,8 +10,8 @@ use Rattle.rg_base.specs.declared.object.Label.TheVariants.{Region, Temp, Frozen
 use Rattle.rg_tree.specs.Tree.{Tree}
 use Rattle.rg_cown.specs.declared.cargo.CargoCell.{CargoCell}
 use Rattle.rg_cown.specs.Cargo.{CargoList, SoundCargo, is_in, label_of, named_from, region_named, regions_named, frozen_fits, is_entered, comes_to}
-use Rattle.rg_image.specs.ImageText.{FitsLabel, FitsCell, FitsCargo, FitsContent}
-use Rattle.rg_image.specs.Images.{IsContent}
+use Rattle.rg_image.specs.ImageText.{FitsLabel, FitsCell, FitsCargo, FitsContent, image_text}
+use Rattle.rg_image.specs.Images.{IsContent, IsImage}
 use Rattle.rg_image.specs.Inner.Ranges.{RangedLabel, RangedCell, RangedCargo, RangedContent}
 
 -- one part more, from the back
@@ -64,3 +64,8 @@ cargo_fits c sound ranged =
 pub content_fits : (t : Tree) (content : Option CargoList) → IsContent t content → RangedContent content → FitsContent content
 content_fits t None held ranged = tt
 content_fits t (Some c) held ranged = cargo_fits c held.0 ranged
+
+-- what is written of it is its image
+pub encoded : (bytes : List ℕ) (content : Option CargoList) → bytes ≡ image_text content → RangedContent content → (t : Tree)
+    → IsContent t content → IsImage t bytes content
+encoded bytes content text ranged t held = record { text = text; numbers = content_fits t content held ranged; fits = held }

@@ -1,11 +1,12 @@
 //! A content as bytes, and back (docs/architecture.md, "Images").
 
-ghost use Rattle.std.specs.Prelude.{◌≡◌, IfOk, Option, option_map};
+ghost use Rattle.std.specs.Prelude.{◌≡◌, IfOk, OnOk, Option, option_map};
 ghost use Rattle.rg_tree.specs.Tree.{Tree};
 ghost use Rattle.rg_tree.specs.Rows.RowTrees.{program_of};
 ghost use Rattle.rg_names.specs.TableOf.{IsTableOf};
 ghost use Rattle.rg_cown.specs.Cargo.{CargoList};
 ghost use Rattle.rg_image.specs.ImageText.{image_text};
+ghost use Rattle.rg_image.specs.Inner.Ranges.{RangedContent};
 ghost use Rattle.rg_image.specs.Images.{IsContent, IsImage, Decodes, Answers};
 
 use crate::reading::read;
@@ -19,16 +20,25 @@ use rg_tree::Program;
 use rg_typed::is_typed;
 use std::alloc::Global;
 
+// The bytes of a content.
+fn spelled(alloc: Global, content: Option<&Cargo>) -> Result<ByteList, Memory>
+    ensures text { IfOk result (λ bytes. bytes ≡ image_text (option_map (λ c. c.now) content.entry)) }
+    ensures ranges { OnOk result (RangedContent (option_map (λ c. c.now) content.entry)) }
+{
+    let mut out = ByteList::new(alloc);
+    out.extend(b"RGI1")?;
+    write_content(content, &mut out)?;
+    Ok(out)
+}
+
 /// The image of a content. What a program may hold is read back from it by `decode`.
 pub fn encode(alloc: Global, content: Option<&Cargo>) -> Result<ByteList, Memory>
     ensures text { IfOk result (λ bytes. bytes ≡ image_text (option_map (λ c. c.now) content.entry)) }
     ensures image { let held = option_map (λ c. c.now) content.entry in
         IfOk result (λ bytes. (t : Tree) → IsContent t held → IsImage t bytes held) }
 {
-    let mut out = ByteList::new(alloc);
-    out.extend(b"RGI1")?;
-    write_content(content, &mut out)?;
-    Ok(out)
+    let bytes = spelled(alloc, content)?;
+    Ok(bytes)
 }
 
 /// The content whose image the bytes are, for a program with its class table. Each byte is looked
