@@ -265,9 +265,9 @@ pub counted-all : (cells : List CargoCell) (old new : List ℕ) (regions : ℕ) 
     → (r n : ℕ) → slice_get new r ≡ Some n → n ≡ min (entries cells (0 + r)) 2
 counted-all cells old new regions none added r n at =
     let within : r < regions =
-    omega (arith, slice_get_within new r n at, added.even, ap length none, length-replicate regions 0) in
+    omega (arith, slice_get_within new r n at, added.even, ap length none, length-replicate {A = ℕ} regions 0) in
     let first : slice_get old r ≡ Some 0 =
-    ap (λ xs. slice_get xs r) none ∙ slice_get-get_or (replicate regions 0) r 0 (omega (arith, within, length-replicate regions 0))
+    ap (λ xs. slice_get xs r) none ∙ slice_get-get_or (replicate regions 0) r 0 (omega (arith, within, length-replicate {A = ℕ} regions 0))
     ∙ ap Some (get_or-replicate regions r 0 0 within) in
     let shifted : 0 + r ≡ r = omega arith in
     let from_none : 0 + entries cells r ≡ entries cells (0 + r) = omega (arith, ap (entries cells) shifted) in

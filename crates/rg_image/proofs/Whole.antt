@@ -24,7 +24,7 @@ pub magic-found : (bytes : List ℕ) (r : Option (Bor (List ℕ)))
     (pointwise nat_eq (take 4 bytes) (codes "RGI1") ≡ true) × (x.now ≡ drop 4 bytes) × (length x.now + 4 ≡ length bytes))
     → Finds (λ (rest : Bor (List ℕ)). rest.now) r (magic_at bytes)
 magic-found bytes None h = ap (λ b. cond b (Some (drop 4 bytes)) None) h
-magic-found bytes (Some x) h = ap (λ b. cond b (Some (drop 4 bytes)) None) h.0 ∙ ap Some (sym h.1.0)
+magic-found bytes (Some x) h = ap (λ b. cond b (Some (drop 4 bytes)) None) h.0 ∙ ap Some (sym h.1)
 
 -- a test that held
 taken : {A : Type 0} (b : Bool) (r : Option A) (y : A) → cond b r None ≡ Some y → (b ≡ true) × (r ≡ Some y)

@@ -20,12 +20,12 @@ returns-in_default-clause-again c =
 pub returns-then-not-sound-clause-image : goal.returns-then-not-sound-clause-image
 returns-then-not-sound-clause-image c =
     unsound (program_of c.args.program.now) c.args.bytes.now c.in-Some.cargo (c.in-Ok.ensures ∙ ap Some c.in-Some.is)
-    (sym c.if-not-sound.ensures)
+    (sym c.in-Ok-is_sound.ensures ∙ c.if-not-sound.true)
 
 pub returns-then-not-sound-clause-again : goal.returns-then-not-sound-clause-again
 returns-then-not-sound-clause-again c =
     unsound (program_of c.args.program.now) c.args.bytes.now c.in-Some.cargo (c.in-Ok.ensures ∙ ap Some c.in-Some.is)
-    (sym c.if-not-sound.ensures)
+    (sym c.in-Ok-is_sound.ensures ∙ c.if-not-sound.true)
 
 pub returns-then-not-is_typed-clause-image : goal.returns-then-not-is_typed-clause-image
 returns-then-not-is_typed-clause-image c =
@@ -40,7 +40,7 @@ returns-then-not-is_typed-clause-again c =
 pub returns-clause-image : goal.returns-clause-image
 returns-clause-image c =
     decoded (program_of c.args.program.now) c.args.bytes.now (Some c.in-Some.cargo) (λ i. omega (arith, c.type_inv.bytes i))
-    (c.in-Ok.ensures ∙ ap Some c.in-Some.is) (sym c.if-not-sound.ensures, sym c.if-not-is_typed.ensures)
+    (c.in-Ok.ensures ∙ ap Some c.in-Some.is) (sym c.in-Ok-is_sound.ensures ∙ c.if-not-sound.false, sym c.if-not-is_typed.ensures)
 
 pub returns-clause-again : goal.returns-clause-again
 returns-clause-again c =
