@@ -1,87 +1,29 @@
 -- Counts of entries by region, up to two.
-use Rattle.std.proofs.Common.{◌≡◌, ◌≢◌, ℕ, zero, suc, ◌+◌, ◌<◌, ◌≤◌, min, inl, inr, Bool as Truth, true, false, cond, if◌then◌else◌, List, [], ◌∷◌, ◌++◌}
-use Rattle.std.proofs.Common.{length, drop, replicate, set, slice_get, Option, Some, None, sum_by, count_by, refl, sym, ap, ◌∙◌, subst, arith}
+use Rattle.std.proofs.Common.{◌≡◌, ℕ, suc, ◌+◌, ◌<◌, min, Bool as Truth, true, false, cond, if◌then◌else◌, List, [], ◌∷◌}
+use Rattle.std.proofs.Common.{length, drop, replicate, slice_get, Option, Some, None, sum_by, count_by, refl, sym, ap, ◌∙◌, subst, arith}
 use Rattle.std.specs.Prelude.{◌==◌, ◌&&◌, not}
 use Rattle.std.specs.List.{list_all, range_with_len}
 use Rattle.std.proofs.lemmas.Bool.Decides.{same_from_decides, Decides-eqb, Decides-like}
-use Rattle.std.proofs.lemmas.Bool.{eqb-true, eqb-false, eq-eqb, ne_eqb, false≢true}
-use Rattle.std.proofs.lemmas.List.{length-replicate, get_or-replicate, length-set, get_or-set_same, get_or-set_other}
+use Rattle.std.proofs.lemmas.Bool.{eqb-true, false≢true}
+use Rattle.std.proofs.lemmas.List.{length-replicate, get_or-replicate}
 use Rattle.std.proofs.lemmas.List.Sums.{sum_by-cons}
 use Rattle.std.proofs.lemmas.Option.{same_Some, slice_get_within, slice_get-get_or}
 use Rattle.rg_base.proofs.Callers.Lists.{drop-here}
 use Rattle.rg_base.specs.declared.object.Label.{Label}
 use Rattle.rg_base.specs.declared.object.Label.TheVariants.{Region, Temp, Frozen}
 use Rattle.rg_base.specs.declared.value.Val.{Val}
-use Rattle.rg_base.specs.declared.value.Val.TheVariants.{Nil, Int, Bool, Obj}
+use Rattle.rg_base.specs.declared.value.Val.TheVariants.{Obj}
 use Rattle.rg_cown.specs.declared.cargo.CargoCell.{CargoCell}
 use Rattle.rg_cown.specs.Cargo.{label_of, is_in, leads_into, entries_of, entries, is_entered}
 use Rattle.rg_image.specs.Inner.Entries.{Adds, enters, region_in, are_right}
 
-pub adds_none : (counts : List ℕ) (f : ℕ → ℕ) → ((r : ℕ) → f r ≡ 0) → Adds counts counts f
-adds_none counts f none = record { even = refl; each = λ r n there capped. there ∙ ap Some (omega (arith, capped, none r)) }
-
+-- one addition behind another
 pub adds_then : (old mid new : List ℕ) (f g h : ℕ → ℕ) → ((r : ℕ) → h r ≡ f r + g r) → Adds old mid f → Adds mid new g → Adds old new h
 adds_then old mid new f g h sum first second = record {
   even = second.even ∙ first.even;
   each = λ r n there capped.
       second.each r (min (n + f r) 2) (first.each r n there capped) (omega arith) ∙ ap Some (omega (arith, sum r));
 }
-
--- one entry more into a region
-
-one_for : (region r n : ℕ) → n ≡ min n 2 → (region ≡ r → n ≡ min (n + 1) 2) → n ≡ min (n + cond (region == r) 1 0) 2
-one_for region r n capped here = by_test (region == r) refl
-  where
-    by_test : (b : Truth) → region == r ≡ b → n ≡ min (n + cond b 1 0) 2
-    by_test true t = here (eqb-true region r t)
-    by_test false t = let same : n ≡ min (n + 0) 2 = omega (arith, capped) in same
-
--- into one that has no count
-pub entry-outside : (counts : List ℕ) (region : ℕ) → length counts ≤ region → Adds counts counts (λ r. if region == r then 1 else 0)
-entry-outside counts region out = record {
-  even = refl;
-  each = λ r n at capped.
-      at ∙ ap Some (one_for region r n capped (λ same. absurd (omega (arith, same, out, slice_get_within counts r n at))));
-}
-
--- into one that has two already
-pub entry-full : (counts : List ℕ) (region count : ℕ) → slice_get counts region ≡ Some count → 2 ≤ count
-    → Adds counts counts (λ r. if region == r then 1 else 0)
-entry-full counts region count there full = record {
-  even = refl;
-  each = λ r n at capped. at ∙ ap Some (one_for region r n capped (λ same. two r n at capped same));
-}
-  where
-    two : (r n : ℕ) → slice_get counts r ≡ Some n → n ≡ min n 2 → region ≡ r → n ≡ min (n + 1) 2
-    two r n at capped same =
-        let count-is : count ≡ n = same_Some count n (sym there ∙ ap (slice_get counts) same ∙ at) in
-        omega (arith, count-is, full, capped)
-
--- into one that has fewer
-pub entry-one : (counts : List ℕ) (region count : ℕ) → slice_get counts region ≡ Some count → count < 2
-    → Adds counts (set counts region (count + 1)) (λ r. if region == r then 1 else 0)
-entry-one counts region count there few = record {
-  even = length-set counts region (count + 1);
-  each = λ r n at capped. by_test r n at capped (region == r) refl;
-}
-  where
-    by_test : (r n : ℕ) → slice_get counts r ≡ Some n → n ≡ min n 2 → (b : Truth) → region == r ≡ b
-        → slice_get (set counts region (count + 1)) r ≡ Some (min (n + cond b 1 0) 2)
-    by_test r n at capped true t =
-        let same : region ≡ r = eqb-true region r t in
-        let within : region < length counts = slice_get_within counts region count there in
-        let count-is : count ≡ n = same_Some count n (sym there ∙ ap (slice_get counts) same ∙ at) in
-        let last : count + 1 ≡ min (n + 1) 2 = omega (arith, count-is, few) in
-        ap (slice_get (set counts region (count + 1))) (sym same)
-        ∙ slice_get-get_or (set counts region (count + 1)) region 0 (omega (arith, length-set counts region (count + 1), within))
-        ∙ ap Some (get_or-set_same counts region (count + 1) 0 within)
-        ∙ ap Some last
-    by_test r n at capped false t =
-        let within : r < length counts = slice_get_within counts r n at in
-        let last : n ≡ min (n + 0) 2 = omega (arith, capped) in
-        slice_get-get_or (set counts region (count + 1)) r 0 (omega (arith, length-set counts region (count + 1), within))
-        ∙ ap Some (get_or-set_other counts region r (count + 1) 0 (λ e. eqb-false region r t (sym e)))
-        ∙ sym (slice_get-get_or counts r 0 within) ∙ at ∙ ap Some last
 
 -- a reference that enters a region
 
@@ -128,67 +70,6 @@ entry-adds cells own v object region old new is e t added = record {
       ∙ ap (λ (w : Val). entries_of cells r own (w ∷ [])) (sym is));
 }
 
--- values that enter no region
-
-no_more : (b : Truth) (n : ℕ) → n ≡ 0 → cond b 0 n ≡ 0
-no_more true n none = refl
-no_more false n none = none
-
-none_of : (cells : List CargoCell) (r : ℕ) (own : Label) (vs : List Val) → count_by (leads_into cells r) vs ≡ 0 → entries_of cells r own vs ≡ 0
-none_of cells r (Region q) vs none = no_more (q == r) (count_by (leads_into cells r) vs) none
-none_of cells r (Temp t) vs none = none
-none_of cells r Frozen vs none = refl
-
-one-leads : (cells : List CargoCell) (r : ℕ) (v : Val) → leads_into cells r v ≡ false → count_by (leads_into cells r) (v ∷ []) ≡ 0
-one-leads cells r v none = sum_by-cons (λ x. cond (leads_into cells r x) 1 0) v [] ∙ ap (λ b. cond b 1 0 + 0) none
-
-leads-nowhere : (cells : List CargoCell) (r : ℕ) (v : Val) → ((object : ℕ) → v ≡ Obj object → ⊥) → leads_into cells r v ≡ false
-leads-nowhere cells r Nil none = refl
-leads-nowhere cells r (Int i) none = refl
-leads-nowhere cells r (Bool b) none = refl
-leads-nowhere cells r (Obj object) none = absurd (none object refl)
-
--- a value that is no reference
-pub value-adds-none : (cells : List CargoCell) (own : Label) (v : Val) (counts : List ℕ) → ((object : ℕ) → v ≡ Obj object → ⊥)
-    → Adds counts counts (λ r. entries_of cells r own (v ∷ []))
-value-adds-none cells own v counts none =
-    adds_none counts _ (λ r. none_of cells r own (v ∷ []) (one-leads cells r v (leads-nowhere cells r v none)))
-
-in-none : (l : Option Label) (r : ℕ) → region_in l ≡ None → is_in r l ≡ false
-in-none None r e = refl
-in-none (Some (Region q)) r e = absurd cc
-in-none (Some (Temp t)) r e = refl
-in-none (Some Frozen) r e = refl
-
--- a reference into no region
-pub outside-adds-none : (cells : List CargoCell) (own : Label) (v : Val) (object : ℕ) (counts : List ℕ) → v ≡ Obj object
-    → region_in (label_of cells object) ≡ None → Adds counts counts (λ r. entries_of cells r own (v ∷ []))
-outside-adds-none cells own v object counts is e =
-    adds_none counts _ (λ r. none_of cells r own (v ∷ []) (one-leads cells r v (ap (leads_into cells r) is ∙ in-none (label_of cells object) r e)))
-
-not_false : (b : Truth) → not b ≡ false → b ≡ true
-not_false true e = refl
-not_false false e = absurd cc
-
-same_region : (q r region : ℕ) → q ≡ region → (b : Truth) → q == r ≡ b → ◌≡◌ {A = ℕ} (cond b 0 (cond (region == r) 1 0)) 0
-same_region q r region e true t = refl
-same_region q r region e false t = ap (λ c. cond c 1 0) (ap (λ (z : ℕ). z == r) (sym e) ∙ t)
-
-stays-zero : (cells : List CargoCell) (own : Label) (object region r : ℕ) → label_of cells object ≡ Some (Region region) → enters own region ≡ false
-    → entries_of cells r own (Obj object ∷ []) ≡ 0
-stays-zero cells (Region q) object region r e t =
-    ap (λ n. cond (q == r) 0 n) (sym (one-count cells r object region e))
-    ∙ same_region q r region (eqb-true q region (not_false (q == region) t)) (q == r) refl
-stays-zero cells (Temp n) object region r e t = absurd cc
-stays-zero cells Frozen object region r e t = refl
-
--- a reference that stays in its region, or is in a frozen object
-pub stays-adds-none : (cells : List CargoCell) (own : Label) (v : Val) (object region : ℕ) (counts : List ℕ) → v ≡ Obj object
-    → region_in (label_of cells object) ≡ Some region → enters own region ≡ false → Adds counts counts (λ r. entries_of cells r own (v ∷ []))
-stays-adds-none cells own v object region counts is e t =
-    adds_none counts _ (λ r. ap (λ (w : Val). entries_of cells r own (w ∷ [])) is
-    ∙ stays-zero cells own object region r (label-is (label_of cells object) region e) t)
-
 -- one field more
 counts-cons : (p : Val → Truth) (v : Val) (vs : List Val) → count_by p (v ∷ vs) ≡ count_by p (v ∷ []) + count_by p vs
 counts-cons p v vs = let one = sum_by-cons (λ x. cond (p x) 1 0) v [] in sum_by-cons (λ x. cond (p x) 1 0) v vs ∙ omega (arith, one)
@@ -231,21 +112,6 @@ same_test e n true capped =
 same_test e n false capped =
     same_from_decides (n == 1) (e == 1) (Decides-eqb n 1) (Decides-like (e == 1) (λ same. omega (arith, same, capped)) (λ same. omega (arith, same, capped))
     (Decides-eqb e 1))
-
--- one count more
-pub right-next : (counts : List ℕ) (k n : ℕ) → slice_get counts k ≡ Some n → n ≡ (if k == 0 then 0 else 1)
-    → are_right k (drop k counts) ≡ are_right (k + 1) (drop (k + 1) counts)
-right-next counts k n there right =
-    let one : suc k ≡ k + 1 = omega arith in
-    let holds : n == (if k == 0 then 0 else 1) ≡ true = eq-eqb n (if k == 0 then 0 else 1) right in
-    ap (are_right k) (drop-here counts k n there) ∙ ap (λ b. b && are_right (suc k) (drop (k + 1) counts)) holds
-    ∙ ap (λ j. are_right j (drop (k + 1) counts)) one
-
--- a count that isn't right
-pub right-stops : (counts : List ℕ) (k n : ℕ) → slice_get counts k ≡ Some n → n ≢ (if k == 0 then 0 else 1) → are_right k (drop k counts) ≡ false
-right-stops counts k n there wrong =
-    ap (are_right k) (drop-here counts k n there)
-    ∙ ap (λ b. b && are_right (suc k) (drop (k + 1) counts)) (ne_eqb n (if k == 0 then 0 else 1) wrong)
 
 pub right_are : (cells : List CargoCell) (k : ℕ) (counts : List ℕ) → ((r n : ℕ) → slice_get counts r ≡ Some n → n ≡ min (entries cells (k + r)) 2)
     → are_right k counts ≡ list_all (is_entered cells) (range_with_len k (length counts))

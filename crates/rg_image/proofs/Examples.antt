@@ -1,12 +1,12 @@
 -- Contents and their images, computed.
-use Rattle.std.proofs.Common.{◌≡◌, refl, ℕ, pos, negsuc, List, [], ◌∷◌, ◌++◌, true, false, length, take, codes, Option, Some, None}
+use Rattle.std.proofs.Common.{◌≡◌, refl, ℕ, pos, negsuc, List, [], ◌∷◌, ◌++◌, true, length, take, codes, Some, None}
 use Rattle.rg_base.specs.declared.words.Manager.TheVariants.{Arena, Count, Trace}
 use Rattle.rg_base.specs.declared.object.Label.TheVariants.{Region, Frozen}
 use Rattle.rg_base.specs.declared.value.Val.TheVariants.{Nil, Int, Bool, Obj}
 use Rattle.rg_cown.specs.Cargo.{CargoList, SoundCargo}
-use Rattle.rg_spell.specs.Reading.{many_at, signed_at, bool_at, manager_at}
+use Rattle.rg_spell.specs.Reading.{many_at, signed_at, manager_at}
 use Rattle.rg_image.specs.ImageText.{image_text}
-use Rattle.rg_image.specs.Inner.Reading.{count_at, counted_at, int_at, truth_at, object_at, value_behind, value_at, region_at, label_behind}
+use Rattle.rg_image.specs.Inner.Reading.{count_at, counted_at, int_at, value_behind, value_at, region_at, label_behind}
 use Rattle.rg_image.specs.Inner.Reading.{label_at, cell_at, cargo_at, held_at, content_behind, content_at, image_at}
 
 -- `RGI1`, and that nothing is there

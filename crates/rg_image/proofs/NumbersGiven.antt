@@ -1,8 +1,8 @@
 -- Numbers that are given one behind the other, where the last one that was given is kept.
-use Rattle.std.proofs.Common.{◌≡◌, ℕ, zero, suc, ◌+◌, ◌<◌, ◌≤◌, Bool as Truth, true, false, cond, if◌then◌else◌, List, [], ◌∷◌, length, drop}
-use Rattle.std.proofs.Common.{slice_get, Option, Some, None, option_map, option_and_then, refl, sym, ap, subst, ◌∙◌, arith}
-use Rattle.std.specs.Prelude.{nat_lt, ◌==◌}
-use Rattle.std.proofs.lemmas.Bool.{lt-ltb, le-ltb, eqb-true}
+use Rattle.std.proofs.Common.{◌≡◌, ℕ, suc, ◌+◌, ◌<◌, true, false, if◌then◌else◌, List, [], ◌∷◌, drop}
+use Rattle.std.proofs.Common.{slice_get, Some, None, option_and_then, refl, sym, ap, subst, ◌∙◌, arith}
+use Rattle.std.specs.Prelude.{nat_lt}
+use Rattle.std.proofs.lemmas.Bool.{le-ltb, eqb-true}
 use Rattle.rg_base.proofs.Callers.Lists.{drop-here}
 use Rattle.rg_base.specs.declared.object.Label.{Label}
 use Rattle.rg_base.specs.declared.object.Label.TheVariants.{Region, Temp, Frozen}
@@ -22,29 +22,6 @@ pub in-stops : (fields : List Val) (k last : ℕ) (v : Val) → slice_get fields
 in-stops fields k last v there e =
     ap (named_in (suc last)) (drop-here fields k v there) ∙ ap (λ o. option_and_then (λ m. named_in m (drop (k + 1) fields)) o) e
 
-from_behind : (k last : ℕ) (c : CargoCell) (cs : List CargoCell) → nat_lt k (suc last) ≡ true
-    → named_from k (suc last) (c ∷ cs) ≡ option_and_then (λ m. named_from (suc k) m cs) (named_in (suc last) c.fields)
-from_behind k last c cs t = ap (λ b. if b then option_and_then (λ m. named_from (suc k) m cs) (named_in (suc last) c.fields) else None) t
-
--- one object more
-pub from-next : (cells : List CargoCell) (k last next : ℕ) (c : CargoCell) → slice_get cells k ≡ Some c → k ≤ last
-    → named_in (suc last) c.fields ≡ Some (suc next) → named_from k (suc last) (drop k cells) ≡ named_from (k + 1) (suc next) (drop (k + 1) cells)
-from-next cells k last next c there le e =
-    let rest = drop (k + 1) cells in
-    let less : nat_lt k (suc last) ≡ true = lt-ltb k (suc last) (omega (arith, le)) in
-    let one : suc k ≡ k + 1 = omega arith in
-    ap (named_from k (suc last)) (drop-here cells k c there) ∙ from_behind k last c rest less
-    ∙ ap (λ o. option_and_then (λ m. named_from (suc k) m rest) o) e ∙ ap (λ n. named_from n (suc next) rest) one
-
--- an object whose fields pass a number over
-pub from-stops : (cells : List CargoCell) (k last : ℕ) (c : CargoCell) → slice_get cells k ≡ Some c → k ≤ last
-    → named_in (suc last) c.fields ≡ None → named_from k (suc last) (drop k cells) ≡ None
-from-stops cells k last c there le e =
-    let rest = drop (k + 1) cells in
-    let less : nat_lt k (suc last) ≡ true = lt-ltb k (suc last) (omega (arith, le)) in
-    ap (named_from k (suc last)) (drop-here cells k c there) ∙ from_behind k last c rest less
-    ∙ ap (λ o. option_and_then (λ m. named_from (suc k) m rest) o) e
-
 -- an object that comes before it was named
 pub from-early : (cells : List CargoCell) (k last : ℕ) (c : CargoCell) → slice_get cells k ≡ Some c → last < k
     → named_from k (suc last) (drop k cells) ≡ None
@@ -53,18 +30,6 @@ from-early cells k last c there lt =
     let not_less : nat_lt k (suc last) ≡ false = le-ltb k (suc last) (omega (arith, lt)) in
     ap (named_from k (suc last)) (drop-here cells k c there)
     ∙ ap (λ b. if b then option_and_then (λ m. named_from (suc k) m rest) (named_in (suc last) c.fields) else None) not_less
-
--- one label more
-pub regions-next : (cells : List CargoCell) (k last next : ℕ) (c : CargoCell) → slice_get cells k ≡ Some c
-    → region_named (suc last) c.label ≡ Some (suc next)
-    → regions_named (suc last) (drop k cells) ≡ regions_named (suc next) (drop (k + 1) cells)
-regions-next cells k last next c there e =
-    ap (regions_named (suc last)) (drop-here cells k c there) ∙ ap (λ o. option_and_then (λ m. regions_named m (drop (k + 1) cells)) o) e
-
-pub regions-stop : (cells : List CargoCell) (k last : ℕ) (c : CargoCell) → slice_get cells k ≡ Some c → region_named (suc last) c.label ≡ None
-    → regions_named (suc last) (drop k cells) ≡ None
-regions-stop cells k last c there e =
-    ap (regions_named (suc last)) (drop-here cells k c there) ∙ ap (λ o. option_and_then (λ m. regions_named m (drop (k + 1) cells)) o) e
 
 -- region 0 is numbered from the start, where the first object lies in it
 first_region : (l : Label) → is_in 0 (Some l) ≡ true → region_named 1 l ≡ region_named 0 l

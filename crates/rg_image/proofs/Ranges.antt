@@ -1,9 +1,8 @@
 -- Whatever is written has the numbers of its types, so what is sound fits an image.
-use Rattle.std.proofs.Common.{◌≡◌, ℕ, ◌+◌, ◌≤◌, Bool as Truth, true, false, ◌&&◌, List, [], ◌∷◌, length, drop, slice_get, Option, Some, None}
+use Rattle.std.proofs.Common.{◌≡◌, ℕ, ◌+◌, Bool as Truth, true, false, ◌&&◌, List, [], ◌∷◌, length, drop, slice_get, Option, Some, None}
 use Rattle.std.proofs.Common.{option_and_then, refl, sym, subst}
 use Rattle.std.specs.List.{AllByRecursion, list_all, range_with_len}
 use Rattle.std.proofs.lemmas.Bool.{false≢true}
-use Rattle.std.proofs.lemmas.List.{drop_all}
 use Rattle.rg_base.proofs.Callers.Lists.{drop-here}
 use Rattle.rg_base.specs.declared.object.Label.{Label}
 use Rattle.rg_base.specs.declared.object.Label.TheVariants.{Region, Temp, Frozen}
@@ -18,10 +17,6 @@ use Rattle.rg_image.specs.Inner.Ranges.{RangedLabel, RangedCell, RangedCargo, Ra
 pub ranges-next : {X : Type 0} (P : X → Type 0) (xs : List X) (k : ℕ) (x : X) → slice_get xs k ≡ Some x → P x
     → AllByRecursion P (drop (k + 1) xs) → AllByRecursion P (drop k xs)
 ranges-next P xs k x there holds rest = subst (AllByRecursion P) (sym (drop-here xs k x there)) (holds, rest)
-
--- no part is left
-pub ranges-end : {X : Type 0} (P : X → Type 0) (xs : List X) (k : ℕ) → length xs ≤ k → AllByRecursion P (drop k xs)
-ranges-end P xs k le = subst (AllByRecursion P) (sym (drop_all k xs le)) tt
 
 -- a label that has a number among regions isn't a temporary's
 label_fits : (n m : ℕ) (l : Label) → region_named n l ≡ Some m → RangedLabel l → FitsLabel l

@@ -1,5 +1,5 @@
 -- Contents whose numbers are those of their types, temporaries or not: what is known of whatever is written.
-use Rattle.std.specs.Prelude.{◌<◌, ◌^◌, ℕ, Option, None, Some}
+use Rattle.std.specs.Prelude.{◌<◌, ◌^◌, Option, None, Some}
 use Rattle.rg_base.specs.declared.object.Label.{Label}
 use Rattle.rg_base.specs.declared.object.Label.TheVariants.{Region, Temp, Frozen}
 use Rattle.rg_cown.specs.declared.cargo.CargoCell.{CargoCell}

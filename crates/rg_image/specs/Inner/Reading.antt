@@ -2,7 +2,7 @@
 use Rattle.std.specs.Prelude.{◌≡◌, ℕ, nat_lt, ◌==◌, if◌then◌else◌, bytes_eq, codes, List, length, take, drop, Option, Some, None, Result, Ok, Err}
 use Rattle.std.specs.Int.{w32, w64}
 use Rattle.rg_base.specs.declared.object.Label.{Label}
-use Rattle.rg_base.specs.declared.object.Label.TheVariants.{Region, Temp, Frozen}
+use Rattle.rg_base.specs.declared.object.Label.TheVariants.{Region, Frozen}
 use Rattle.rg_base.specs.declared.value.Val.{Val}
 use Rattle.rg_base.specs.declared.value.Val.TheVariants.{Nil, Int, Bool, Obj}
 use Rattle.rg_cown.specs.declared.cargo.CargoCell.{CargoCell}
