@@ -10,8 +10,6 @@ mod flow;
 #[cfg(test)]
 mod generated;
 #[cfg(test)]
-mod images;
-#[cfg(test)]
 mod lists;
 #[cfg(test)]
 mod modules;
