@@ -1,0 +1,8 @@
+-- Lemmas of images, and images that were computed; none is for crates above.
+mod Parts
+mod Whole
+mod Loops
+mod NumbersGiven
+mod Counts
+mod Ranges
+mod Examples

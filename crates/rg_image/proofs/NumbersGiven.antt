@@ -1,0 +1,42 @@
+-- Numbers that are given one behind the other, where the last one that was given is kept.
+use Rattle.std.proofs.Common.{◌≡◌, ℕ, suc, ◌+◌, ◌<◌, true, false, if◌then◌else◌, List, [], ◌∷◌, drop}
+use Rattle.std.proofs.Common.{slice_get, Some, None, option_and_then, refl, sym, ap, subst, ◌∙◌, arith}
+use Rattle.std.specs.Prelude.{nat_lt}
+use Rattle.std.proofs.lemmas.Bool.{le-ltb, eqb-true}
+use Rattle.rg_base.proofs.Callers.Lists.{drop-here}
+use Rattle.rg_base.specs.declared.object.Label.{Label}
+use Rattle.rg_base.specs.declared.object.Label.TheVariants.{Region, Temp, Frozen}
+use Rattle.rg_base.specs.declared.value.Val.{Val}
+use Rattle.rg_cown.specs.declared.cargo.CargoCell.{CargoCell}
+use Rattle.rg_cown.specs.Cargo.{label_of, is_in, named, named_by, named_in, named_from, region_named, regions_named}
+
+-- one value more
+pub in-next : (fields : List Val) (k last next : ℕ) (v : Val) → slice_get fields k ≡ Some v → named_by (suc last) v ≡ Some (suc next)
+    → named_in (suc last) (drop k fields) ≡ named_in (suc next) (drop (k + 1) fields)
+in-next fields k last next v there e =
+    ap (named_in (suc last)) (drop-here fields k v there) ∙ ap (λ o. option_and_then (λ m. named_in m (drop (k + 1) fields)) o) e
+
+-- a value that passes a number over
+pub in-stops : (fields : List Val) (k last : ℕ) (v : Val) → slice_get fields k ≡ Some v → named_by (suc last) v ≡ None
+    → named_in (suc last) (drop k fields) ≡ None
+in-stops fields k last v there e =
+    ap (named_in (suc last)) (drop-here fields k v there) ∙ ap (λ o. option_and_then (λ m. named_in m (drop (k + 1) fields)) o) e
+
+-- an object that comes before it was named
+pub from-early : (cells : List CargoCell) (k last : ℕ) (c : CargoCell) → slice_get cells k ≡ Some c → last < k
+    → named_from k (suc last) (drop k cells) ≡ None
+from-early cells k last c there lt =
+    let rest = drop (k + 1) cells in
+    let not_less : nat_lt k (suc last) ≡ false = le-ltb k (suc last) (omega (arith, lt)) in
+    ap (named_from k (suc last)) (drop-here cells k c there)
+    ∙ ap (λ b. if b then option_and_then (λ m. named_from (suc k) m rest) (named_in (suc last) c.fields) else None) not_less
+
+-- region 0 is numbered from the start, where the first object lies in it
+first_region : (l : Label) → is_in 0 (Some l) ≡ true → region_named 1 l ≡ region_named 0 l
+first_region (Region r) e = subst (λ (z : ℕ). named 1 z ≡ named 0 z) (sym (eqb-true r 0 e)) refl
+first_region (Temp t) e = absurd cc
+first_region Frozen e = absurd cc
+
+pub regions-start : (cells : List CargoCell) → is_in 0 (label_of cells 0) ≡ true → regions_named 1 cells ≡ regions_named 0 cells
+regions-start [] e = absurd cc
+regions-start (c ∷ cs) e = ap (λ o. option_and_then (λ m. regions_named m cs) o) (first_region c.label e)

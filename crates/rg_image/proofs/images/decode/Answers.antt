@@ -1,0 +1,47 @@
+use Rattle.std.proofs.Common.{Some, None, sym, ap, ◌∙◌, arith}
+use Rattle.rg_tree.specs.Rows.RowTrees.{program_of}
+use Rattle.rg_image.proofs.Whole.{decoded, again, refused, refused-again, unsound, untyped}
+use Rattle.rg_image.proofs.images.decode.Goals as goal
+
+pub returns-in-Err-clause-image : goal.returns-in-Err-clause-image
+returns-in-Err-clause-image c = refused (program_of c.args.program.now) c.args.bytes.now c.in-Err.e c.in-Err.ensures
+
+pub returns-in-Err-clause-again : goal.returns-in-Err-clause-again
+returns-in-Err-clause-again c = refused-again (program_of c.args.program.now) c.args.bytes.now c.in-Err.e c.in-Err.ensures
+
+pub returns-in_default-clause-image : goal.returns-in_default-clause-image
+returns-in_default-clause-image c =
+    decoded (program_of c.args.program.now) c.args.bytes.now None (λ i. omega (arith, c.type_inv.bytes i)) (c.in-Ok.ensures ∙ ap Some c.in_default.is) tt
+
+pub returns-in_default-clause-again : goal.returns-in_default-clause-again
+returns-in_default-clause-again c =
+    again (program_of c.args.program.now) c.args.bytes.now None (c.in-Ok.ensures ∙ ap Some c.in_default.is)
+
+pub returns-then-not-sound-clause-image : goal.returns-then-not-sound-clause-image
+returns-then-not-sound-clause-image c =
+    unsound (program_of c.args.program.now) c.args.bytes.now c.in-Some.cargo (c.in-Ok.ensures ∙ ap Some c.in-Some.is)
+    (sym c.in-Ok-is_sound.ensures ∙ c.if-not-sound.true)
+
+pub returns-then-not-sound-clause-again : goal.returns-then-not-sound-clause-again
+returns-then-not-sound-clause-again c =
+    unsound (program_of c.args.program.now) c.args.bytes.now c.in-Some.cargo (c.in-Ok.ensures ∙ ap Some c.in-Some.is)
+    (sym c.in-Ok-is_sound.ensures ∙ c.if-not-sound.true)
+
+pub returns-then-not-is_typed-clause-image : goal.returns-then-not-is_typed-clause-image
+returns-then-not-is_typed-clause-image c =
+    untyped (program_of c.args.program.now) c.args.bytes.now c.in-Some.cargo (c.in-Ok.ensures ∙ ap Some c.in-Some.is)
+    (sym c.if-not-is_typed.ensures)
+
+pub returns-then-not-is_typed-clause-again : goal.returns-then-not-is_typed-clause-again
+returns-then-not-is_typed-clause-again c =
+    untyped (program_of c.args.program.now) c.args.bytes.now c.in-Some.cargo (c.in-Ok.ensures ∙ ap Some c.in-Some.is)
+    (sym c.if-not-is_typed.ensures)
+
+pub returns-clause-image : goal.returns-clause-image
+returns-clause-image c =
+    decoded (program_of c.args.program.now) c.args.bytes.now (Some c.in-Some.cargo) (λ i. omega (arith, c.type_inv.bytes i))
+    (c.in-Ok.ensures ∙ ap Some c.in-Some.is) (sym c.in-Ok-is_sound.ensures ∙ c.if-not-sound.false, sym c.if-not-is_typed.ensures)
+
+pub returns-clause-again : goal.returns-clause-again
+returns-clause-again c =
+    again (program_of c.args.program.now) c.args.bytes.now (Some c.in-Some.cargo) (c.in-Ok.ensures ∙ ap Some c.in-Some.is)

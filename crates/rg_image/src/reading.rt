@@ -1,0 +1,324 @@
+//! A content that is read from bytes, part by part, each with the bytes behind it
+//! (docs/architecture.md, "Images"). No count takes memory: a part takes it when it is there.
+
+ghost use Rattle.std.specs.Prelude.{◌≡◌, [], IfOk};
+ghost use Rattle.rg_spell.specs.Reading.{Finds, manager_at, many_at};
+ghost use Rattle.rg_image.specs.Inner.Reading.{Gives, count_at, counted_at};
+ghost use Rattle.rg_image.specs.Inner.Reading.{int_at, truth_at, object_at, value_behind, value_at};
+ghost use Rattle.rg_image.specs.Inner.Reading.{region_at, label_behind, label_at, cell_at};
+ghost use Rattle.rg_image.specs.Inner.Reading.{cargo_at, held_at, content_behind, content_at};
+ghost use Rattle.rg_image.specs.Inner.Reading.{magic_at, image_at};
+
+use crate::refusal::Refusal;
+use rg_base::{Label, Val, Vals};
+use rg_cown::{Cargo, CargoCell};
+use rg_spell::{take_bool, take_byte, take_i64, take_manager, take_u32, take_u64};
+use std::alloc::Global;
+
+// A count of parts, each of at least one byte.
+#[tactic(auto, unfolding(crate::specs::Inner::Reading::count_at))]
+fn take_count(bytes: &[u8]) -> Option<(u64, &[u8])>
+    ensures { Finds (λ x. (x.0, x.1.now)) result (count_at bytes.now) }
+{
+    let Some((count, rest)) = take_u64(bytes) else {
+        return None;
+    };
+    if count > rest.len() as u64 {
+        return None;
+    }
+    Some((count, rest))
+}
+
+// A number, behind the byte that says so.
+#[tactic(auto, unfolding(crate::specs::Inner::Reading::int_at))]
+fn take_int(bytes: &[u8]) -> Option<(Val, &[u8])>
+    ensures { Finds (λ x. (x.0, x.1.now)) result (int_at bytes.now) }
+{
+    let Some((number, rest)) = take_i64(bytes) else {
+        return None;
+    };
+    Some((Val::Int(number), rest))
+}
+
+// A truth value, behind the byte that says so.
+#[tactic(auto, unfolding(crate::specs::Inner::Reading::truth_at))]
+fn take_truth(bytes: &[u8]) -> Option<(Val, &[u8])>
+    ensures { Finds (λ x. (x.0, x.1.now)) result (truth_at bytes.now) }
+{
+    let Some((truth, rest)) = take_bool(bytes) else {
+        return None;
+    };
+    Some((Val::Bool(truth), rest))
+}
+
+// A reference, behind the byte that says so.
+#[tactic(auto, unfolding(crate::specs::Inner::Reading::object_at))]
+fn take_object(bytes: &[u8]) -> Option<(Val, &[u8])>
+    ensures { Finds (λ x. (x.0, x.1.now)) result (object_at bytes.now) }
+{
+    let Some((object, rest)) = take_u64(bytes) else {
+        return None;
+    };
+    Some((Val::Obj(object), rest))
+}
+
+// A value, behind its first byte.
+#[tactic(auto, unfolding(crate::specs::Inner::Reading::value_behind))]
+fn take_behind(kind: u8, bytes: &[u8]) -> Option<(Val, &[u8])>
+    ensures { Finds (λ x. (x.0, x.1.now)) result (value_behind kind bytes.now) }
+{
+    match kind {
+        0 => Some((Val::Nil, bytes)),
+        1 => take_int(bytes),
+        2 => take_truth(bytes),
+        3 => take_object(bytes),
+        _ => None,
+    }
+}
+
+// A value.
+#[tactic(auto, unfolding(crate::specs::Inner::Reading::value_at))]
+fn take_value(bytes: &[u8]) -> Option<(Val, &[u8])>
+    ensures { Finds (λ x. (x.0, x.1.now)) result (value_at bytes.now) }
+{
+    let Some((kind, rest)) = take_byte(bytes) else {
+        return None;
+    };
+    take_behind(kind, rest)
+}
+
+// The label of an object of a region, behind the byte that says so.
+#[tactic(auto, unfolding(crate::specs::Inner::Reading::region_at))]
+fn take_region(bytes: &[u8]) -> Option<(Label, &[u8])>
+    ensures { Finds (λ x. (x.0, x.1.now)) result (region_at bytes.now) }
+{
+    let Some((region, rest)) = take_u64(bytes) else {
+        return None;
+    };
+    Some((Label::Region(region), rest))
+}
+
+// A label, behind its first byte.
+#[tactic(auto, unfolding(crate::specs::Inner::Reading::label_behind))]
+fn take_label_behind(kind: u8, bytes: &[u8]) -> Option<(Label, &[u8])>
+    ensures { Finds (λ x. (x.0, x.1.now)) result (label_behind kind bytes.now) }
+{
+    match kind {
+        0 => take_region(bytes),
+        1 => Some((Label::Frozen, bytes)),
+        _ => None,
+    }
+}
+
+// A label.
+#[tactic(auto, unfolding(crate::specs::Inner::Reading::label_at))]
+fn take_label(bytes: &[u8]) -> Option<(Label, &[u8])>
+    ensures { Finds (λ x. (x.0, x.1.now)) result (label_at bytes.now) }
+{
+    let Some((kind, rest)) = take_byte(bytes) else {
+        return None;
+    };
+    take_label_behind(kind, rest)
+}
+
+// So many values.
+fn take_many_values(alloc: Global, count: u64, bytes: &[u8]) -> Result<(Vals, &[u8]), Refusal>
+    ensures { Gives (λ x. (x.0, x.1.now)) result (many_at value_at count bytes.now) }
+{
+    let mut values = Vals::new(alloc);
+    let mut rest = bytes;
+    for _ in 0..count {
+        let Some((value, after)) = take_value(rest) else {
+            return Err(Refusal::NotImage);
+        };
+        let Ok(()) = values.push(value) else {
+            return Err(Refusal::Memory);
+        };
+        rest = after;
+    }
+    Ok((values, rest))
+}
+
+// A count of values, and the values.
+#[tactic(auto, unfolding(crate::specs::Inner::Reading::counted_at))]
+fn take_values(alloc: Global, bytes: &[u8]) -> Result<(Vals, &[u8]), Refusal>
+    ensures { Gives (λ x. (x.0, x.1.now)) result (counted_at value_at bytes.now) }
+{
+    let Some((count, rest)) = take_count(bytes) else {
+        return Err(Refusal::NotImage);
+    };
+    take_many_values(alloc, count, rest)
+}
+
+// An object.
+#[tactic(auto, unfolding(crate::specs::Inner::Reading::cell_at))]
+fn take_cell(alloc: Global, bytes: &[u8]) -> Result<(CargoCell, &[u8]), Refusal>
+    ensures { Gives (λ x. (x.0, x.1.now)) result (cell_at bytes.now) }
+{
+    let Some((class, rest)) = take_u32(bytes) else {
+        return Err(Refusal::NotImage);
+    };
+    let Some((label, rest)) = take_label(rest) else {
+        return Err(Refusal::NotImage);
+    };
+    let (fields, rest) = match take_values(alloc, rest) {
+        Ok(pair) => pair,
+        Err(e) => return Err(e),
+    };
+    let cell = CargoCell {
+        class,
+        label,
+        fields,
+    };
+    Ok((cell, rest))
+}
+
+// So many managers, and no objects.
+fn take_many_managers(alloc: Global, count: u64, bytes: &[u8]) -> Result<(Cargo, &[u8]), Refusal>
+    ensures read { Gives (λ x. (x.0.managers, x.1.now)) result (many_at manager_at count bytes.now) }
+    ensures cells { IfOk result (λ x. x.0.cells ≡ []) }
+{
+    let mut cargo = Cargo::new(alloc);
+    let mut rest = bytes;
+    for _ in 0..count {
+        let Some((manager, after)) = take_manager(rest) else {
+            return Err(Refusal::NotImage);
+        };
+        let Ok(()) = cargo.add_manager(manager) else {
+            return Err(Refusal::Memory);
+        };
+        rest = after;
+    }
+    Ok((cargo, rest))
+}
+
+// A count of managers, and the managers, but no objects.
+#[tactic(auto, unfolding(crate::specs::Inner::Reading::counted_at))]
+fn take_managers(alloc: Global, bytes: &[u8]) -> Result<(Cargo, &[u8]), Refusal>
+    ensures read { Gives (λ x. (x.0.managers, x.1.now)) result (counted_at manager_at bytes.now) }
+    ensures cells { IfOk result (λ x. x.0.cells ≡ []) }
+{
+    let Some((count, rest)) = take_count(bytes) else {
+        return Err(Refusal::NotImage);
+    };
+    take_many_managers(alloc, count, rest)
+}
+
+// So many objects, beside managers.
+fn take_many_cells(
+    alloc: Global,
+    managers: Cargo,
+    count: u64,
+    bytes: &[u8],
+) -> Result<(Cargo, &[u8]), Refusal>
+    requires { managers.cells ≡ [] }
+    ensures read { Gives (λ x. (x.0.cells, x.1.now)) result (many_at cell_at count bytes.now) }
+    ensures managers { IfOk result (λ x. x.0.managers ≡ managers.managers) }
+{
+    let mut cargo = managers;
+    let mut rest = bytes;
+    for _ in 0..count {
+        let (cell, after) = match take_cell(alloc, rest) {
+            Ok(pair) => pair,
+            Err(e) => return Err(e),
+        };
+        let Ok(()) = cargo.add_cell(cell) else {
+            return Err(Refusal::Memory);
+        };
+        rest = after;
+    }
+    Ok((cargo, rest))
+}
+
+// A count of objects, and the objects, beside managers.
+#[tactic(auto, unfolding(crate::specs::Inner::Reading::counted_at))]
+fn take_cells(alloc: Global, managers: Cargo, bytes: &[u8]) -> Result<(Cargo, &[u8]), Refusal>
+    requires { managers.cells ≡ [] }
+    ensures read { Gives (λ x. (x.0.cells, x.1.now)) result (counted_at cell_at bytes.now) }
+    ensures managers { IfOk result (λ x. x.0.managers ≡ managers.managers) }
+{
+    let Some((count, rest)) = take_count(bytes) else {
+        return Err(Refusal::NotImage);
+    };
+    take_many_cells(alloc, managers, count, rest)
+}
+
+// Managers and objects.
+#[tactic(auto, unfolding(crate::specs::Inner::Reading::cargo_at))]
+fn take_cargo(alloc: Global, bytes: &[u8]) -> Result<(Cargo, &[u8]), Refusal>
+    ensures { Gives (λ x. (x.0, x.1.now)) result (cargo_at bytes.now) }
+{
+    let (managers, rest) = match take_managers(alloc, bytes) {
+        Ok(pair) => pair,
+        Err(e) => return Err(e),
+    };
+    let (cargo, rest) = match take_cells(alloc, managers, rest) {
+        Ok(pair) => pair,
+        Err(e) => return Err(e),
+    };
+    Ok((cargo, rest))
+}
+
+// A content that is there, behind the byte that says so.
+#[tactic(auto, unfolding(crate::specs::Inner::Reading::held_at))]
+fn take_held(alloc: Global, bytes: &[u8]) -> Result<(Option<Cargo>, &[u8]), Refusal>
+    ensures { Gives (λ x. (x.0, x.1.now)) result (held_at bytes.now) }
+{
+    let (cargo, rest) = match take_cargo(alloc, bytes) {
+        Ok(pair) => pair,
+        Err(e) => return Err(e),
+    };
+    Ok((Some(cargo), rest))
+}
+
+// A content, behind its first byte.
+#[tactic(auto, unfolding(crate::specs::Inner::Reading::content_behind))]
+fn take_content_behind(
+    alloc: Global,
+    kind: u8,
+    bytes: &[u8],
+) -> Result<(Option<Cargo>, &[u8]), Refusal>
+    ensures { Gives (λ x. (x.0, x.1.now)) result (content_behind kind bytes.now) }
+{
+    match kind {
+        0 => Ok((None, bytes)),
+        1 => take_held(alloc, bytes),
+        _ => Err(Refusal::NotImage),
+    }
+}
+
+// A content.
+#[tactic(auto, unfolding(crate::specs::Inner::Reading::content_at))]
+fn take_content(alloc: Global, bytes: &[u8]) -> Result<(Option<Cargo>, &[u8]), Refusal>
+    ensures { Gives (λ x. (x.0, x.1.now)) result (content_at bytes.now) }
+{
+    let Some((kind, rest)) = take_byte(bytes) else {
+        return Err(Refusal::NotImage);
+    };
+    take_content_behind(alloc, kind, rest)
+}
+
+// The bytes behind `RGI1`.
+fn take_magic(bytes: &[u8]) -> Option<&[u8]>
+    ensures { Finds (λ rest. rest.now) result (magic_at bytes.now) }
+{
+    bytes.strip_prefix(b"RGI1")
+}
+
+/// The content that all of the bytes spell.
+#[tactic(auto, unfolding(crate::specs::Inner::Reading::image_at))]
+pub(crate) fn read(alloc: Global, bytes: &[u8]) -> Result<Option<Cargo>, Refusal>
+    ensures { Gives (λ content. content) result (image_at bytes.now) }
+{
+    let Some(rest) = take_magic(bytes) else {
+        return Err(Refusal::NotImage);
+    };
+    let (content, rest) = match take_content(alloc, rest) {
+        Ok(pair) => pair,
+        Err(e) => return Err(e),
+    };
+    if !rest.is_empty() {
+        return Err(Refusal::NotImage);
+    }
+    Ok(content)
+}
