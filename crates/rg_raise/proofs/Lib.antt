@@ -1,9 +1,9 @@
--- What calls make of what is told, by its parts.
-mod Rows
+-- What calls make of what is told, by its parts. Those with pub are for the crate above.
+pub mod Rows
 mod Using
 mod Used
 mod FrontRows
-mod Telling
-mod RightSides
+pub mod Telling
+pub mod RightSides
 mod KindParts
 mod Objects

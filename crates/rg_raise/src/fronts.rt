@@ -15,7 +15,7 @@ use rg_tree::Program;
 use rg_verify::{Body, FrontRow, Refusal, raise_expressions};
 
 /// The fronts whose code stands at an address.
-pub(crate) fn raise_fronts(
+pub fn raise_fronts(
     body: Body,
     program: &mut Program,
     code: &CodeList,
@@ -55,7 +55,7 @@ fn start_by(code: &CodeList, first: Option<FrontRow>, stretch: Stretch) -> usize
 }
 
 /// Takes the first of the fronts at an address.
-pub(crate) fn take_first(code: &CodeList, fronts: &mut Fronts) -> Option<FrontRow>
+pub fn take_first(code: &CodeList, fronts: &mut Fronts) -> Option<FrontRow>
     ensures takes { (t : Tables) (m : Truth) (fs : List OneFront) →
         AreFrontsAt t m code.now.ops fronts.old fs →
         TakesFirst t m code.now.ops fronts.new fs result }

@@ -118,7 +118,7 @@ fn taken_by(
 }
 
 /// A value goes into a slot.
-pub(crate) fn taken(
+pub fn taken(
     body: Body,
     program: &mut Program,
     source: &Module,
@@ -214,7 +214,7 @@ fn written_to(
 }
 
 /// An element is written.
-pub(crate) fn element_written(
+pub fn element_written(
     body: Body,
     program: &mut Program,
     source: &Module,
@@ -314,7 +314,7 @@ fn room_by(
 }
 
 /// A statement that begins with an object and then with more, by what stands behind that.
-pub(crate) fn object_by(
+pub fn object_by(
     body: Body,
     program: &mut Program,
     source: &Module,

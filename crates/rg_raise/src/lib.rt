@@ -4,7 +4,7 @@
 //! behind it; or nothing is told, or no memory was found. `raise_fronts` raises what a statement
 //! begins with, and `take_first` takes the first part of it (`specs/Fronts`); behind an object goes
 //! on `object_by`, behind a place in an array `element_written`, behind a right side `taken`. All
-//! is private yet: blocks within statements are still to come.
+//! else is private.
 #![tactic(auto)]
 
 mod ends;
@@ -16,3 +16,11 @@ mod said;
 mod signs;
 mod types;
 mod uses;
+
+pub use fronts::{raise_fronts, take_first};
+pub use kinds::{element_written, object_by, taken};
+pub use rights::{array_row, made_behind};
+pub use row_parts::longer_path;
+pub use said::{After, Fronts, KindSaid, RightSaid, Stretch};
+pub use types::slot_type;
+pub use uses::behind_uses;

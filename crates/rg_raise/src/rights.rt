@@ -116,7 +116,7 @@ fn class_row(body: Body, program: &mut Program, class: u32) -> Result<u32, Refus
 }
 
 /// A new array, by what stands behind the number of its elements.
-pub(crate) fn array_row(
+pub fn array_row(
     body: Body,
     program: &mut Program,
     walk: Walk,
@@ -209,7 +209,7 @@ fn is_paced(making: Making) -> bool
 }
 
 /// A right side of one instruction.
-pub(crate) fn made_behind(
+pub fn made_behind(
     body: Body,
     program: &mut Program,
     source: &Module,

@@ -82,7 +82,7 @@ fn longer(body: Body, program: &Program, path: Path, name: u32) -> Result<Vec<u3
 }
 
 /// Adds what a path needs that goes on by a field.
-pub(crate) fn longer_path(
+pub fn longer_path(
     body: Body,
     program: &mut Program,
     path: Path,

@@ -6,14 +6,14 @@ use rg_verify::FrontRow;
 
 /// A stretch of code: its first address, and the address behind it.
 #[derive(Clone, Copy)]
-pub(crate) struct Stretch {
+pub struct Stretch {
     pub from: usize,
     pub end: usize,
 }
 
 /// Expressions, objects and places in order, by their rows, and the stretch of their code.
 #[derive(Drop)]
-pub(crate) struct Fronts {
+pub struct Fronts {
     pub rows: Vec<FrontRow>,
     pub code: Stretch,
 }
@@ -34,14 +34,14 @@ pub(crate) struct CallSaid {
 
 /// A right side, and whether a pacer is asked.
 #[derive(Clone, Copy)]
-pub(crate) struct RightSaid {
+pub struct RightSaid {
     pub row: Right,
     pub paces: bool,
 }
 
 /// What a statement changes for those behind it.
 #[derive(Clone, Copy)]
-pub(crate) enum After {
+pub enum After {
     /// nothing
     Same,
     /// there is one more variable, of a type
@@ -52,7 +52,7 @@ pub(crate) enum After {
 
 /// A statement, and what it changes.
 #[derive(Clone, Copy)]
-pub(crate) struct KindSaid {
+pub struct KindSaid {
     pub row: StmtKind,
     pub after: After,
 }

@@ -9,7 +9,7 @@ use rg_base::Ty;
 use rg_module::Module;
 
 /// The type of the variable in a slot, by the map of the mark at an address.
-pub(crate) fn slot_type(source: &Module, at: usize, slot: u32) -> Option<Ty>
+pub fn slot_type(source: &Module, at: usize, slot: u32) -> Option<Ty>
     ensures { result ≡ blocks.slot_type source.now.code.ops source.now.maps at slot }
 {
     mark_at(source.code(), at)?;

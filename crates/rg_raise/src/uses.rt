@@ -89,7 +89,7 @@ fn use_at(code: &CodeList, types: &Vec<Ty>, at: usize, next: usize) -> Option<u3
 }
 
 /// The address behind what clears, from an address on, the slots that a stretch of code uses up.
-pub(crate) fn behind_uses(
+pub fn behind_uses(
     code: &CodeList,
     types: &Vec<Ty>,
     stretch: Stretch,

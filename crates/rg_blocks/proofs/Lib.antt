@@ -1,0 +1,6 @@
+-- Blocks that are told, by their parts.
+mod Put
+mod Going
+mod BlockParts
+mod BlockRows
+mod Turns

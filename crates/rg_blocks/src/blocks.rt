@@ -1,0 +1,539 @@
+//! Blocks, raised from their code (docs/architecture.md, "Modules").
+
+ghost use Rattle.std.specs.Prelude.{◌≡◌, ◌+◌, ◌<◌, ◌^◌, ℕ, List, [], ◌∷◌, length, IfOk, Some};
+ghost use Rattle.rg_verify.specs.Raised.{Raised, named, Front as OneFront, expression};
+ghost use Rattle.rg_verify.specs.declared.signs.Walk.TheVariants as walk;
+ghost use Rattle.rg_verify.specs.Rows.{IsTree};
+ghost use Rattle.rg_verify.specs.Signs.{close_of, open_of, walk_of};
+ghost use Rattle.rg_verify.specs.Statements as statements;
+ghost use Rattle.rg_verify.specs.Blocks as blocks;
+ghost use Rattle.rg_verify.specs.Blocks.{sign, block_told};
+ghost use Rattle.rg_raise.specs.Fronts.{Spans, TakesFirst};
+ghost use Rattle.rg_raise.specs.Telling.{given, MakesAs, IsKindSaid};
+ghost use Rattle.rg_blocks.specs.Blocks.{IsBlockSaid, IsWindowSaid};
+
+use crate::ends::{behind_end, behind_leave, starts_at};
+use crate::parts::{entered, path_in, put_block, put_stmt};
+use crate::said::WindowSaid;
+use crate::signs::{close_at, jump_at, open_at, walk_at};
+use crate::types::{bridge_class, slots_of};
+use rg_base::{Cap, Ty};
+use rg_module::Module;
+use rg_raise::{
+    After, Fronts, KindSaid, RightSaid, Stretch, array_row, behind_uses, element_written,
+    longer_path, made_behind, object_by, raise_fronts, slot_type, take_first, taken,
+};
+use rg_tree::{Program, Right, Span, StmtKind};
+use rg_verify::{Body, Callee, Close, FrontRow, Open, Refusal, Walk, path_row};
+use std::alloc::Global;
+
+// The second block of an `if`, behind the jump over it.
+#[cycle(block)]
+fn otherwise_told(
+    body: Body,
+    program: &mut Program,
+    source: &Module,
+    methods: &[Callee],
+    types: &mut Vec<Ty>,
+    depth: usize,
+    line: u64,
+    test: u32,
+    yes: Span,
+    to: usize,
+    at: usize,
+) -> Result<(KindSaid, usize), Refusal>
+    ensures told { (e : Raised) (b : statements.Block) →
+        IsTree program.old test (named body.in_method e) →
+        IsBlockSaid body.in_method (length types.old.items) program.old yes b →
+        let g = given source.now methods.now in
+        MakesAs (IsKindSaid body.in_method (length types.old.items)) program.old program.new
+        (blocks.otherwise_told g (block_told g depth) types.old.items line e b to at) result }
+    ensures types { IfOk result (λ x. types.new.items ≡ types.old.items) }
+{
+    let slots = slots_of(types);
+    let (no, behind) = raise_inner(body, program, source, methods, types, depth, at)?;
+    let Some(end) = behind_end(source.code(), line, slots, behind) else {
+        return Err(Refusal::NotRaised);
+    };
+    if to != end {
+        return Err(Refusal::NotRaised);
+    }
+    let row = StmtKind::If {
+        test,
+        yes,
+        no: Some(no),
+    };
+    let after = After::Same;
+    Ok((KindSaid { row, after }, end))
+}
+
+// A loop, or an `if` with two blocks, whose first block has ended in front of a jump.
+#[cycle(block)]
+fn jumped(
+    body: Body,
+    program: &mut Program,
+    source: &Module,
+    methods: &[Callee],
+    types: &mut Vec<Ty>,
+    depth: usize,
+    line: u64,
+    start: usize,
+    test: u32,
+    yes: Span,
+    fails: usize,
+    at: usize,
+) -> Result<(KindSaid, usize), Refusal>
+    ensures told { (e : Raised) (b : statements.Block) →
+        IsTree program.old test (named body.in_method e) →
+        IsBlockSaid body.in_method (length types.old.items) program.old yes b →
+        let g = given source.now methods.now in
+        MakesAs (IsKindSaid body.in_method (length types.old.items)) program.old program.new
+        (blocks.jumped g (block_told g depth) types.old.items line start e b fails at) result }
+    ensures types { IfOk result (λ x. types.new.items ≡ types.old.items) }
+{
+    let Some(to) = jump_at(source.code(), at) else {
+        return Err(Refusal::NotRaised);
+    };
+    if fails != at + 1 {
+        return Err(Refusal::NotRaised);
+    }
+    if to == start {
+        let row = StmtKind::While { test, body: yes };
+        let after = After::Same;
+        return Ok((KindSaid { row, after }, at + 1));
+    }
+    otherwise_told(
+        body,
+        program,
+        source,
+        methods,
+        types,
+        depth,
+        line,
+        test,
+        yes,
+        to,
+        at + 1,
+    )
+}
+
+// An `if` or a loop, behind the jump over its block.
+#[cycle(block)]
+fn tested(
+    body: Body,
+    program: &mut Program,
+    source: &Module,
+    methods: &[Callee],
+    types: &mut Vec<Ty>,
+    depth: usize,
+    line: u64,
+    start: usize,
+    test: u32,
+    fails: usize,
+    at: usize,
+) -> Result<(KindSaid, usize), Refusal>
+    ensures told { (e : Raised) → IsTree program.old test (named body.in_method e) →
+        let g = given source.now methods.now in
+        MakesAs (IsKindSaid body.in_method (length types.old.items)) program.old program.new
+        (blocks.tested g (block_told g depth) types.old.items line start e fails at) result }
+    ensures types { IfOk result (λ x. types.new.items ≡ types.old.items) }
+{
+    let slots = slots_of(types);
+    let (yes, behind) = raise_inner(body, program, source, methods, types, depth, at)?;
+    let Some(end) = behind_end(source.code(), line, slots, behind) else {
+        return Err(Refusal::NotRaised);
+    };
+    if fails == end {
+        let row = StmtKind::If {
+            test,
+            yes,
+            no: None,
+        };
+        let after = After::Same;
+        return Ok((KindSaid { row, after }, end));
+    }
+    jumped(
+        body, program, source, methods, types, depth, line, start, test, yes, fails, end,
+    )
+}
+
+// A statement that begins with a whole expression, by what stands behind that.
+#[cycle(block)]
+fn close_by(
+    body: Body,
+    program: &mut Program,
+    source: &Module,
+    methods: &[Callee],
+    types: &mut Vec<Ty>,
+    depth: usize,
+    line: u64,
+    start: usize,
+    test: u32,
+    at: usize,
+) -> Result<(KindSaid, usize), Refusal>
+    ensures told { (e : Raised) → IsTree program.old test (named body.in_method e) →
+        let g = given source.now methods.now in
+        MakesAs (IsKindSaid body.in_method (length types.old.items)) program.old program.new
+        (blocks.close_by g (block_told g depth) types.old.items line start e at
+        (sign close_of g.ops at)) result }
+    ensures types { IfOk result (λ x. types.new.items ≡ types.old.items) }
+{
+    match close_at(source.code(), at) {
+        None => {
+            let row = Right::Expr(test);
+            let right = RightSaid { row, paces: false };
+            taken(body, program, source, types, right, at)
+        }
+        Some(Close::Print) => {
+            let row = StmtKind::Print(test);
+            let after = After::Same;
+            Ok((KindSaid { row, after }, at + 1))
+        }
+        Some(Close::Return) => {
+            let row = StmtKind::Return(test);
+            let after = After::Last;
+            Ok((KindSaid { row, after }, at + 1))
+        }
+        Some(Close::Test { to }) => {
+            tested(
+                body,
+                program,
+                source,
+                methods,
+                types,
+                depth,
+                line,
+                start,
+                test,
+                to,
+                at + 1,
+            )
+        }
+    }
+}
+
+// The block of an `enter`, with the slot that gives its bridge.
+#[cycle(block)]
+fn window(
+    body: Body,
+    program: &mut Program,
+    source: &Module,
+    methods: &[Callee],
+    types: &mut Vec<Ty>,
+    depth: usize,
+    line: u64,
+    bridge: u32,
+    at: usize,
+) -> Result<(WindowSaid, usize), Refusal>
+    ensures told { let g = given source.now methods.now in
+        MakesAs (IsWindowSaid body.in_method (length types.old.items)) program.old program.new
+        (blocks.window g (block_told g depth) types.old.items line bridge at) result }
+    ensures types { IfOk result (λ x. types.new.items ≡ types.old.items) }
+    ensures next { IfOk result (λ x. bridge ≡ length types.old.items) }
+{
+    let slots = slots_of(types);
+    if bridge as usize != slots {
+        return Err(Refusal::NotRaised);
+    }
+    let Some(ty) = slot_type(source, at, bridge) else {
+        return Err(Refusal::NotRaised);
+    };
+    let Some(class) = bridge_class(ty) else {
+        return Err(Refusal::NotRaised);
+    };
+    let cap = Cap::Mut;
+    let Ok(()) = types.push(Ty::Ref { cap, class }) else {
+        return Err(Refusal::Memory);
+    };
+    let (block, behind) = raise_inner(body, program, source, methods, types, depth, at)?;
+    types.truncate(slots);
+    let Some((given, end)) = behind_leave(source.code(), line, slots, behind) else {
+        return Err(Refusal::NotRaised);
+    };
+    Ok((WindowSaid { block, given }, end))
+}
+
+// A field is entered.
+#[cycle(block)]
+fn field_entered(
+    body: Body,
+    program: &mut Program,
+    source: &Module,
+    methods: &[Callee],
+    types: &mut Vec<Ty>,
+    depth: usize,
+    line: u64,
+    start: usize,
+    test: u32,
+    index: u32,
+    bridge: u32,
+    at: usize,
+) -> Result<(KindSaid, usize), Refusal>
+    requires tree { (e : Raised) × IsTree program.old test (named body.in_method e) }
+    requires next { at + 1 < 2 ^ 64 }
+    ensures told { (e : Raised) → IsTree program.old test (named body.in_method e) →
+        let g = given source.now methods.now in
+        MakesAs (IsKindSaid body.in_method (length types.old.items)) program.old program.new
+        (blocks.expr_by g (block_told g depth) types.old.items line start e at
+        (Some (walk.Enter index bridge))) result }
+    ensures types { IfOk result (λ x. types.new.items ≡ types.old.items) }
+{
+    let Some(path) = path_in(body, program, test) else {
+        return Err(Refusal::NotRaised);
+    };
+    let (inside, end) = window(
+        body,
+        program,
+        source,
+        methods,
+        types,
+        depth,
+        line,
+        bridge,
+        at + 1,
+    )?;
+    let Ok(path) = longer_path(body, program, path, index) else {
+        return Err(Refusal::Memory);
+    };
+    let Ok(kind) = entered(body, program, path, bridge, inside) else {
+        return Err(Refusal::Memory);
+    };
+    Ok((kind, end))
+}
+
+// A statement that begins with an expression, by what stands behind that.
+#[cycle(block)]
+fn expr_by(
+    body: Body,
+    program: &mut Program,
+    source: &Module,
+    methods: &[Callee],
+    types: &mut Vec<Ty>,
+    depth: usize,
+    line: u64,
+    start: usize,
+    row: u32,
+    code: Stretch,
+) -> Result<(KindSaid, usize), Refusal>
+    requires { (e : Raised) × IsTree program.old row (named body.in_method e) }
+    ensures told { (e : Raised) → IsTree program.old row (named body.in_method e) →
+        Spans source.now.code.ops code (expression e ∷ []) →
+        let g = given source.now methods.now in
+        MakesAs (IsKindSaid body.in_method (length types.old.items)) program.old program.new
+        (blocks.expr_by g (block_told g depth) types.old.items line start e code.end
+        (sign walk_of g.ops code.end)) result }
+    ensures types { IfOk result (λ x. types.new.items ≡ types.old.items) }
+{
+    let end = code.end;
+    let Some(walk) = walk_at(source.code(), end) else {
+        let Some(behind) = behind_uses(source.code(), types, code, end) else {
+            return Err(Refusal::NotRaised);
+        };
+        return close_by(
+            body, program, source, methods, types, depth, line, start, row, behind,
+        );
+    };
+    if let Walk::Enter { index, bridge } = walk {
+        return field_entered(
+            body, program, source, methods, types, depth, line, start, row, index, bridge, end,
+        );
+    }
+    let right = array_row(body, program, walk, row)?;
+    taken(body, program, source, types, right, end + 1)
+}
+
+// A statement with nothing in front, by its first instruction.
+#[cycle(block)]
+fn open_by(
+    body: Body,
+    program: &mut Program,
+    source: &Module,
+    methods: &[Callee],
+    types: &mut Vec<Ty>,
+    depth: usize,
+    line: u64,
+    at: usize,
+) -> Result<(KindSaid, usize), Refusal>
+    ensures told { let g = given source.now methods.now in
+        MakesAs (IsKindSaid body.in_method (length types.old.items)) program.old program.new
+        (blocks.open_by g (block_told g depth) types.old.items line at (sign open_of g.ops at))
+        result }
+    ensures types { IfOk result (λ x. types.new.items ≡ types.old.items) }
+{
+    match open_at(source.code(), at) {
+        None => {
+            let (right, behind) = made_behind(body, program, source, at)?;
+            taken(body, program, source, types, right, behind)
+        }
+        Some(Open::Collect) => {
+            let row = StmtKind::Collect;
+            let after = After::Same;
+            Ok((KindSaid { row, after }, at + 1))
+        }
+        Some(Open::Enter { slot, bridge }) => {
+            let (inside, end) = window(
+                body,
+                program,
+                source,
+                methods,
+                types,
+                depth,
+                line,
+                bridge,
+                at + 1,
+            )?;
+            let Ok(path) = path_row(body, program, slot, &[]) else {
+                return Err(Refusal::Memory);
+            };
+            let Ok(kind) = entered(body, program, path, bridge, inside) else {
+                return Err(Refusal::Memory);
+            };
+            Ok((kind, end))
+        }
+    }
+}
+
+// A statement, by what it begins with.
+#[cycle(block)]
+fn kind_by(
+    body: Body,
+    program: &mut Program,
+    source: &Module,
+    methods: &[Callee],
+    types: &mut Vec<Ty>,
+    depth: usize,
+    line: u64,
+    start: usize,
+    first: Option<FrontRow>,
+    fronts: Fronts,
+) -> Result<(KindSaid, usize), Refusal>
+    requires { (fs : List OneFront) ×
+        TakesFirst program.old body.in_method source.now.code.ops fronts fs first }
+    ensures told { (fs : List OneFront) →
+        TakesFirst program.old body.in_method source.now.code.ops fronts fs first →
+        let g = given source.now methods.now in
+        MakesAs (IsKindSaid body.in_method (length types.old.items)) program.old program.new
+        (blocks.kind_by g (block_told g depth) types.old.items line start fs fronts.code.end)
+        result }
+    ensures types { IfOk result (λ x. types.new.items ≡ types.old.items) }
+{
+    let code = fronts.code;
+    match first {
+        None => open_by(body, program, source, methods, types, depth, line, code.end),
+        Some(FrontRow::Expression { row }) => {
+            if fronts.rows.len() != 0 {
+                return Err(Refusal::NotRaised);
+            }
+            expr_by(
+                body, program, source, methods, types, depth, line, start, row, code,
+            )
+        }
+        Some(FrontRow::Object { path }) => {
+            object_by(body, program, source, methods, types, path, fronts)
+        }
+        Some(FrontRow::Place { path, index }) => {
+            element_written(body, program, source, methods, types, path, index, fronts)
+        }
+    }
+}
+
+// The statement of a line whose mark stands at an address.
+#[cycle(block)]
+fn kind_told(
+    body: Body,
+    program: &mut Program,
+    source: &Module,
+    methods: &[Callee],
+    types: &mut Vec<Ty>,
+    depth: usize,
+    line: u64,
+    at: usize,
+) -> Result<(KindSaid, usize), Refusal>
+    requires next { at + 1 < 2 ^ 64 }
+    ensures told { let g = given source.now methods.now in
+        MakesAs (IsKindSaid body.in_method (length types.old.items)) program.old program.new
+        (blocks.kind_told g (block_told g depth) types.old.items line at) result }
+    ensures types { IfOk result (λ x. types.new.items ≡ types.old.items) }
+{
+    let mut fronts = raise_fronts(body, program, source.code(), at + 1)?;
+    let first = take_first(source.code(), &mut fronts);
+    kind_by(
+        body, program, source, methods, types, depth, line, at, first, fronts,
+    )
+}
+
+// A block in which blocks stand so deep at most.
+#[cycle(block)]
+fn raise_inner(
+    body: Body,
+    program: &mut Program,
+    source: &Module,
+    methods: &[Callee],
+    types: &mut Vec<Ty>,
+    depth: usize,
+    at: usize,
+) -> Result<(Span, usize), Refusal>
+    ensures told { let g = given source.now methods.now in
+        MakesAs (IsBlockSaid body.in_method (length types.old.items)) program.old program.new
+        (block_told g depth types.old.items at) result }
+    ensures types { IfOk result (λ x. types.new.items ≡ types.old.items) }
+{
+    if depth == 0 {
+        return Err(Refusal::NotRaised);
+    }
+    let inner = depth - 1;
+    let slots = slots_of(types);
+    let mut numbers = Vec::new(body.alloc);
+    let mut end = at;
+    while let Some(line) = starts_at(source.code(), end) {
+        let (kind, behind) = kind_told(body, program, source, methods, types, inner, line, end)?;
+        let Ok(number) = put_stmt(program, line, kind.row) else {
+            return Err(Refusal::Memory);
+        };
+        let Ok(()) = numbers.push(number) else {
+            return Err(Refusal::Memory);
+        };
+        end = behind;
+        match kind.after {
+            After::Same => {}
+            After::More { ty } => {
+                let Ok(()) = types.push(ty) else {
+                    return Err(Refusal::Memory);
+                };
+            }
+            After::Last => {
+                types.truncate(slots);
+                let Ok(span) = put_block(program, numbers.as_slice()) else {
+                    return Err(Refusal::Memory);
+                };
+                return Ok((span, end));
+            }
+        }
+    }
+    types.truncate(slots);
+    let Ok(span) = put_block(program, numbers.as_slice()) else {
+        return Err(Refusal::Memory);
+    };
+    Ok((span, end))
+}
+
+/// The block whose code stands at an address, behind variables of these types, as rows, and the
+/// address behind it; blocks stand in it so deep at most.
+pub fn raise_block(
+    alloc: Global,
+    program: &mut Program,
+    in_method: bool,
+    source: &Module,
+    methods: &[Callee],
+    types: &mut Vec<Ty>,
+    depth: usize,
+    at: usize,
+) -> Result<(Span, usize), Refusal>
+    ensures told { let g = given source.now methods.now in
+        MakesAs (IsBlockSaid in_method (length types.old.items)) program.old program.new
+        (block_told g depth types.old.items at) result }
+    ensures types { IfOk result (λ x. types.new.items ≡ types.old.items) }
+{
+    let body = Body { alloc, in_method };
+    raise_inner(body, program, source, methods, types, depth, at)
+}
