@@ -1,6 +1,7 @@
 //! Blocks, raised from their code (docs/architecture.md, "Modules").
 
 ghost use Rattle.std.specs.Prelude.{◌≡◌, ◌+◌, ◌<◌, ◌^◌, ℕ, List, [], ◌∷◌, length, IfOk, Some};
+ghost use Rattle.rg_tree.specs.Adds.{Extends};
 ghost use Rattle.rg_verify.specs.Raised.{Raised, named, Front as OneFront, expression};
 ghost use Rattle.rg_verify.specs.declared.signs.Walk.TheVariants as walk;
 ghost use Rattle.rg_verify.specs.Rows.{IsTree};
@@ -18,22 +19,18 @@ use crate::said::WindowSaid;
 use crate::signs::{close_at, jump_at, open_at, walk_at};
 use crate::types::{bridge_class, slots_of};
 use rg_base::{Cap, Ty};
-use rg_module::Module;
 use rg_raise::{
-    After, Fronts, KindSaid, RightSaid, Stretch, array_row, behind_uses, element_written,
+    After, Fronts, KindSaid, RightSaid, Source, Stretch, array_row, behind_uses, element_written,
     longer_path, made_behind, object_by, raise_fronts, slot_type, take_first, taken,
 };
 use rg_tree::{Program, Right, Span, StmtKind};
-use rg_verify::{Body, Callee, Close, FrontRow, Open, Refusal, Walk, path_row};
-use std::alloc::Global;
+use rg_verify::{Close, FrontRow, Open, Refusal, Walk, path_row};
 
 // The second block of an `if`, behind the jump over it.
 #[cycle(block)]
 fn otherwise_told(
-    body: Body,
+    source: &Source<'_>,
     program: &mut Program,
-    source: &Module,
-    methods: &[Callee],
     types: &mut Vec<Ty>,
     depth: usize,
     line: u64,
@@ -43,16 +40,17 @@ fn otherwise_told(
     at: usize,
 ) -> Result<(KindSaid, usize), Refusal>
     ensures told { (e : Raised) (b : statements.Block) →
-        IsTree program.old test (named body.in_method e) →
-        IsBlockSaid body.in_method (length types.old.items) program.old yes b →
-        let g = given source.now methods.now in
-        MakesAs (IsKindSaid body.in_method (length types.old.items)) program.old program.new
+        IsTree program.old test (named source.now.body.in_method e) →
+        IsBlockSaid source.now.body.in_method (length types.old.items) program.old yes b →
+        let g = given source.now in
+        MakesAs (IsKindSaid source.now.body.in_method (length types.old.items)) program.old program.new
         (blocks.otherwise_told g (block_told g depth) types.old.items line e b to at) result }
+    ensures grows { Extends program.old program.new }
     ensures types { IfOk result (λ x. types.new.items ≡ types.old.items) }
 {
     let slots = slots_of(types);
-    let (no, behind) = raise_inner(body, program, source, methods, types, depth, at)?;
-    let Some(end) = behind_end(source.code(), line, slots, behind) else {
+    let (no, behind) = raise_inner(source, program, types, depth, at)?;
+    let Some(end) = behind_end(source.module.code(), line, slots, behind) else {
         return Err(Refusal::NotRaised);
     };
     if to != end {
@@ -70,10 +68,8 @@ fn otherwise_told(
 // A loop, or an `if` with two blocks, whose first block has ended in front of a jump.
 #[cycle(block)]
 fn jumped(
-    body: Body,
+    source: &Source<'_>,
     program: &mut Program,
-    source: &Module,
-    methods: &[Callee],
     types: &mut Vec<Ty>,
     depth: usize,
     line: u64,
@@ -84,14 +80,15 @@ fn jumped(
     at: usize,
 ) -> Result<(KindSaid, usize), Refusal>
     ensures told { (e : Raised) (b : statements.Block) →
-        IsTree program.old test (named body.in_method e) →
-        IsBlockSaid body.in_method (length types.old.items) program.old yes b →
-        let g = given source.now methods.now in
-        MakesAs (IsKindSaid body.in_method (length types.old.items)) program.old program.new
+        IsTree program.old test (named source.now.body.in_method e) →
+        IsBlockSaid source.now.body.in_method (length types.old.items) program.old yes b →
+        let g = given source.now in
+        MakesAs (IsKindSaid source.now.body.in_method (length types.old.items)) program.old program.new
         (blocks.jumped g (block_told g depth) types.old.items line start e b fails at) result }
+    ensures grows { Extends program.old program.new }
     ensures types { IfOk result (λ x. types.new.items ≡ types.old.items) }
 {
-    let Some(to) = jump_at(source.code(), at) else {
+    let Some(to) = jump_at(source.module.code(), at) else {
         return Err(Refusal::NotRaised);
     };
     if fails != at + 1 {
@@ -102,28 +99,14 @@ fn jumped(
         let after = After::Same;
         return Ok((KindSaid { row, after }, at + 1));
     }
-    otherwise_told(
-        body,
-        program,
-        source,
-        methods,
-        types,
-        depth,
-        line,
-        test,
-        yes,
-        to,
-        at + 1,
-    )
+    otherwise_told(source, program, types, depth, line, test, yes, to, at + 1)
 }
 
 // An `if` or a loop, behind the jump over its block.
 #[cycle(block)]
 fn tested(
-    body: Body,
+    source: &Source<'_>,
     program: &mut Program,
-    source: &Module,
-    methods: &[Callee],
     types: &mut Vec<Ty>,
     depth: usize,
     line: u64,
@@ -132,15 +115,16 @@ fn tested(
     fails: usize,
     at: usize,
 ) -> Result<(KindSaid, usize), Refusal>
-    ensures told { (e : Raised) → IsTree program.old test (named body.in_method e) →
-        let g = given source.now methods.now in
-        MakesAs (IsKindSaid body.in_method (length types.old.items)) program.old program.new
+    ensures told { (e : Raised) → IsTree program.old test (named source.now.body.in_method e) →
+        let g = given source.now in
+        MakesAs (IsKindSaid source.now.body.in_method (length types.old.items)) program.old program.new
         (blocks.tested g (block_told g depth) types.old.items line start e fails at) result }
+    ensures grows { Extends program.old program.new }
     ensures types { IfOk result (λ x. types.new.items ≡ types.old.items) }
 {
     let slots = slots_of(types);
-    let (yes, behind) = raise_inner(body, program, source, methods, types, depth, at)?;
-    let Some(end) = behind_end(source.code(), line, slots, behind) else {
+    let (yes, behind) = raise_inner(source, program, types, depth, at)?;
+    let Some(end) = behind_end(source.module.code(), line, slots, behind) else {
         return Err(Refusal::NotRaised);
     };
     if fails == end {
@@ -153,17 +137,15 @@ fn tested(
         return Ok((KindSaid { row, after }, end));
     }
     jumped(
-        body, program, source, methods, types, depth, line, start, test, yes, fails, end,
+        source, program, types, depth, line, start, test, yes, fails, end,
     )
 }
 
 // A statement that begins with a whole expression, by what stands behind that.
 #[cycle(block)]
 fn close_by(
-    body: Body,
+    source: &Source<'_>,
     program: &mut Program,
-    source: &Module,
-    methods: &[Callee],
     types: &mut Vec<Ty>,
     depth: usize,
     line: u64,
@@ -171,18 +153,19 @@ fn close_by(
     test: u32,
     at: usize,
 ) -> Result<(KindSaid, usize), Refusal>
-    ensures told { (e : Raised) → IsTree program.old test (named body.in_method e) →
-        let g = given source.now methods.now in
-        MakesAs (IsKindSaid body.in_method (length types.old.items)) program.old program.new
+    ensures told { (e : Raised) → IsTree program.old test (named source.now.body.in_method e) →
+        let g = given source.now in
+        MakesAs (IsKindSaid source.now.body.in_method (length types.old.items)) program.old program.new
         (blocks.close_by g (block_told g depth) types.old.items line start e at
         (sign close_of g.ops at)) result }
+    ensures grows { Extends program.old program.new }
     ensures types { IfOk result (λ x. types.new.items ≡ types.old.items) }
 {
-    match close_at(source.code(), at) {
+    match close_at(source.module.code(), at) {
         None => {
             let row = Right::Expr(test);
             let right = RightSaid { row, paces: false };
-            taken(body, program, source, types, right, at)
+            taken(source, program, types, right, at)
         }
         Some(Close::Print) => {
             let row = StmtKind::Print(test);
@@ -195,19 +178,7 @@ fn close_by(
             Ok((KindSaid { row, after }, at + 1))
         }
         Some(Close::Test { to }) => {
-            tested(
-                body,
-                program,
-                source,
-                methods,
-                types,
-                depth,
-                line,
-                start,
-                test,
-                to,
-                at + 1,
-            )
+            tested(source, program, types, depth, line, start, test, to, at + 1)
         }
     }
 }
@@ -215,19 +186,18 @@ fn close_by(
 // The block of an `enter`, with the slot that gives its bridge.
 #[cycle(block)]
 fn window(
-    body: Body,
+    source: &Source<'_>,
     program: &mut Program,
-    source: &Module,
-    methods: &[Callee],
     types: &mut Vec<Ty>,
     depth: usize,
     line: u64,
     bridge: u32,
     at: usize,
 ) -> Result<(WindowSaid, usize), Refusal>
-    ensures told { let g = given source.now methods.now in
-        MakesAs (IsWindowSaid body.in_method (length types.old.items)) program.old program.new
+    ensures told { let g = given source.now in
+        MakesAs (IsWindowSaid source.now.body.in_method (length types.old.items)) program.old program.new
         (blocks.window g (block_told g depth) types.old.items line bridge at) result }
+    ensures grows { Extends program.old program.new }
     ensures types { IfOk result (λ x. types.new.items ≡ types.old.items) }
     ensures next { IfOk result (λ x. bridge ≡ length types.old.items) }
 {
@@ -235,7 +205,7 @@ fn window(
     if bridge as usize != slots {
         return Err(Refusal::NotRaised);
     }
-    let Some(ty) = slot_type(source, at, bridge) else {
+    let Some(ty) = slot_type(source.module, at, bridge) else {
         return Err(Refusal::NotRaised);
     };
     let Some(class) = bridge_class(ty) else {
@@ -245,9 +215,9 @@ fn window(
     let Ok(()) = types.push(Ty::Ref { cap, class }) else {
         return Err(Refusal::Memory);
     };
-    let (block, behind) = raise_inner(body, program, source, methods, types, depth, at)?;
+    let (block, behind) = raise_inner(source, program, types, depth, at)?;
     types.truncate(slots);
-    let Some((given, end)) = behind_leave(source.code(), line, slots, behind) else {
+    let Some((given, end)) = behind_leave(source.module.code(), line, slots, behind) else {
         return Err(Refusal::NotRaised);
     };
     Ok((WindowSaid { block, given }, end))
@@ -256,10 +226,8 @@ fn window(
 // A field is entered.
 #[cycle(block)]
 fn field_entered(
-    body: Body,
+    source: &Source<'_>,
     program: &mut Program,
-    source: &Module,
-    methods: &[Callee],
     types: &mut Vec<Ty>,
     depth: usize,
     line: u64,
@@ -269,33 +237,24 @@ fn field_entered(
     bridge: u32,
     at: usize,
 ) -> Result<(KindSaid, usize), Refusal>
-    requires tree { (e : Raised) × IsTree program.old test (named body.in_method e) }
+    requires tree { (e : Raised) × IsTree program.old test (named source.now.body.in_method e) }
     requires next { at + 1 < 2 ^ 64 }
-    ensures told { (e : Raised) → IsTree program.old test (named body.in_method e) →
-        let g = given source.now methods.now in
-        MakesAs (IsKindSaid body.in_method (length types.old.items)) program.old program.new
+    ensures told { (e : Raised) → IsTree program.old test (named source.now.body.in_method e) →
+        let g = given source.now in
+        MakesAs (IsKindSaid source.now.body.in_method (length types.old.items)) program.old program.new
         (blocks.expr_by g (block_told g depth) types.old.items line start e at
         (Some (walk.Enter index bridge))) result }
+    ensures grows { Extends program.old program.new }
     ensures types { IfOk result (λ x. types.new.items ≡ types.old.items) }
 {
-    let Some(path) = path_in(body, program, test) else {
+    let Some(path) = path_in(source.body, program, test) else {
         return Err(Refusal::NotRaised);
     };
-    let (inside, end) = window(
-        body,
-        program,
-        source,
-        methods,
-        types,
-        depth,
-        line,
-        bridge,
-        at + 1,
-    )?;
-    let Ok(path) = longer_path(body, program, path, index) else {
+    let (inside, end) = window(source, program, types, depth, line, bridge, at + 1)?;
+    let Ok(path) = longer_path(source.body, program, path, index) else {
         return Err(Refusal::Memory);
     };
-    let Ok(kind) = entered(body, program, path, bridge, inside) else {
+    let Ok(kind) = entered(source.body, program, path, bridge, inside) else {
         return Err(Refusal::Memory);
     };
     Ok((kind, end))
@@ -304,10 +263,8 @@ fn field_entered(
 // A statement that begins with an expression, by what stands behind that.
 #[cycle(block)]
 fn expr_by(
-    body: Body,
+    source: &Source<'_>,
     program: &mut Program,
-    source: &Module,
-    methods: &[Callee],
     types: &mut Vec<Ty>,
     depth: usize,
     line: u64,
@@ -315,55 +272,53 @@ fn expr_by(
     row: u32,
     code: Stretch,
 ) -> Result<(KindSaid, usize), Refusal>
-    requires { (e : Raised) × IsTree program.old row (named body.in_method e) }
-    ensures told { (e : Raised) → IsTree program.old row (named body.in_method e) →
-        Spans source.now.code.ops code (expression e ∷ []) →
-        let g = given source.now methods.now in
-        MakesAs (IsKindSaid body.in_method (length types.old.items)) program.old program.new
+    requires { (e : Raised) × IsTree program.old row (named source.now.body.in_method e) }
+    ensures told { (e : Raised) → IsTree program.old row (named source.now.body.in_method e) →
+        Spans source.now.module.now.code.ops code (expression e ∷ []) →
+        let g = given source.now in
+        MakesAs (IsKindSaid source.now.body.in_method (length types.old.items)) program.old program.new
         (blocks.expr_by g (block_told g depth) types.old.items line start e code.end
         (sign walk_of g.ops code.end)) result }
+    ensures grows { Extends program.old program.new }
     ensures types { IfOk result (λ x. types.new.items ≡ types.old.items) }
 {
     let end = code.end;
-    let Some(walk) = walk_at(source.code(), end) else {
-        let Some(behind) = behind_uses(source.code(), types, code, end) else {
+    let Some(walk) = walk_at(source.module.code(), end) else {
+        let Some(behind) = behind_uses(source.module.code(), types, code, end) else {
             return Err(Refusal::NotRaised);
         };
-        return close_by(
-            body, program, source, methods, types, depth, line, start, row, behind,
-        );
+        return close_by(source, program, types, depth, line, start, row, behind);
     };
     if let Walk::Enter { index, bridge } = walk {
         return field_entered(
-            body, program, source, methods, types, depth, line, start, row, index, bridge, end,
+            source, program, types, depth, line, start, row, index, bridge, end,
         );
     }
-    let right = array_row(body, program, walk, row)?;
-    taken(body, program, source, types, right, end + 1)
+    let right = array_row(source.body, program, walk, row)?;
+    taken(source, program, types, right, end + 1)
 }
 
 // A statement with nothing in front, by its first instruction.
 #[cycle(block)]
 fn open_by(
-    body: Body,
+    source: &Source<'_>,
     program: &mut Program,
-    source: &Module,
-    methods: &[Callee],
     types: &mut Vec<Ty>,
     depth: usize,
     line: u64,
     at: usize,
 ) -> Result<(KindSaid, usize), Refusal>
-    ensures told { let g = given source.now methods.now in
-        MakesAs (IsKindSaid body.in_method (length types.old.items)) program.old program.new
+    ensures told { let g = given source.now in
+        MakesAs (IsKindSaid source.now.body.in_method (length types.old.items)) program.old program.new
         (blocks.open_by g (block_told g depth) types.old.items line at (sign open_of g.ops at))
         result }
+    ensures grows { Extends program.old program.new }
     ensures types { IfOk result (λ x. types.new.items ≡ types.old.items) }
 {
-    match open_at(source.code(), at) {
+    match open_at(source.module.code(), at) {
         None => {
-            let (right, behind) = made_behind(body, program, source, at)?;
-            taken(body, program, source, types, right, behind)
+            let (right, behind) = made_behind(source, program, at)?;
+            taken(source, program, types, right, behind)
         }
         Some(Open::Collect) => {
             let row = StmtKind::Collect;
@@ -371,21 +326,11 @@ fn open_by(
             Ok((KindSaid { row, after }, at + 1))
         }
         Some(Open::Enter { slot, bridge }) => {
-            let (inside, end) = window(
-                body,
-                program,
-                source,
-                methods,
-                types,
-                depth,
-                line,
-                bridge,
-                at + 1,
-            )?;
-            let Ok(path) = path_row(body, program, slot, &[]) else {
+            let (inside, end) = window(source, program, types, depth, line, bridge, at + 1)?;
+            let Ok(path) = path_row(source.body, program, slot, &[]) else {
                 return Err(Refusal::Memory);
             };
-            let Ok(kind) = entered(body, program, path, bridge, inside) else {
+            let Ok(kind) = entered(source.body, program, path, bridge, inside) else {
                 return Err(Refusal::Memory);
             };
             Ok((kind, end))
@@ -396,10 +341,8 @@ fn open_by(
 // A statement, by what it begins with.
 #[cycle(block)]
 fn kind_by(
-    body: Body,
+    source: &Source<'_>,
     program: &mut Program,
-    source: &Module,
-    methods: &[Callee],
     types: &mut Vec<Ty>,
     depth: usize,
     line: u64,
@@ -408,31 +351,28 @@ fn kind_by(
     fronts: Fronts,
 ) -> Result<(KindSaid, usize), Refusal>
     requires { (fs : List OneFront) ×
-        TakesFirst program.old body.in_method source.now.code.ops fronts fs first }
+        TakesFirst program.old source.now.body.in_method source.now.module.now.code.ops fronts fs first }
     ensures told { (fs : List OneFront) →
-        TakesFirst program.old body.in_method source.now.code.ops fronts fs first →
-        let g = given source.now methods.now in
-        MakesAs (IsKindSaid body.in_method (length types.old.items)) program.old program.new
+        TakesFirst program.old source.now.body.in_method source.now.module.now.code.ops fronts fs first →
+        let g = given source.now in
+        MakesAs (IsKindSaid source.now.body.in_method (length types.old.items)) program.old program.new
         (blocks.kind_by g (block_told g depth) types.old.items line start fs fronts.code.end)
         result }
+    ensures grows { Extends program.old program.new }
     ensures types { IfOk result (λ x. types.new.items ≡ types.old.items) }
 {
     let code = fronts.code;
     match first {
-        None => open_by(body, program, source, methods, types, depth, line, code.end),
+        None => open_by(source, program, types, depth, line, code.end),
         Some(FrontRow::Expression { row }) => {
             if fronts.rows.len() != 0 {
                 return Err(Refusal::NotRaised);
             }
-            expr_by(
-                body, program, source, methods, types, depth, line, start, row, code,
-            )
+            expr_by(source, program, types, depth, line, start, row, code)
         }
-        Some(FrontRow::Object { path }) => {
-            object_by(body, program, source, methods, types, path, fronts)
-        }
+        Some(FrontRow::Object { path }) => { object_by(source, program, types, path, fronts) }
         Some(FrontRow::Place { path, index }) => {
-            element_written(body, program, source, methods, types, path, index, fronts)
+            element_written(source, program, types, path, index, fronts)
         }
     }
 }
@@ -440,42 +380,38 @@ fn kind_by(
 // The statement of a line whose mark stands at an address.
 #[cycle(block)]
 fn kind_told(
-    body: Body,
+    source: &Source<'_>,
     program: &mut Program,
-    source: &Module,
-    methods: &[Callee],
     types: &mut Vec<Ty>,
     depth: usize,
     line: u64,
     at: usize,
 ) -> Result<(KindSaid, usize), Refusal>
     requires next { at + 1 < 2 ^ 64 }
-    ensures told { let g = given source.now methods.now in
-        MakesAs (IsKindSaid body.in_method (length types.old.items)) program.old program.new
+    ensures told { let g = given source.now in
+        MakesAs (IsKindSaid source.now.body.in_method (length types.old.items)) program.old program.new
         (blocks.kind_told g (block_told g depth) types.old.items line at) result }
+    ensures grows { Extends program.old program.new }
     ensures types { IfOk result (λ x. types.new.items ≡ types.old.items) }
 {
-    let mut fronts = raise_fronts(body, program, source.code(), at + 1)?;
-    let first = take_first(source.code(), &mut fronts);
-    kind_by(
-        body, program, source, methods, types, depth, line, at, first, fronts,
-    )
+    let mut fronts = raise_fronts(source.body, program, source.module.code(), at + 1)?;
+    let first = take_first(source.module.code(), &mut fronts);
+    kind_by(source, program, types, depth, line, at, first, fronts)
 }
 
 // A block in which blocks stand so deep at most.
 #[cycle(block)]
 fn raise_inner(
-    body: Body,
+    source: &Source<'_>,
     program: &mut Program,
-    source: &Module,
-    methods: &[Callee],
     types: &mut Vec<Ty>,
     depth: usize,
     at: usize,
 ) -> Result<(Span, usize), Refusal>
-    ensures told { let g = given source.now methods.now in
-        MakesAs (IsBlockSaid body.in_method (length types.old.items)) program.old program.new
+    ensures told { let g = given source.now in
+        MakesAs (IsBlockSaid source.now.body.in_method (length types.old.items)) program.old program.new
         (block_told g depth types.old.items at) result }
+    ensures grows { Extends program.old program.new }
     ensures types { IfOk result (λ x. types.new.items ≡ types.old.items) }
 {
     if depth == 0 {
@@ -483,10 +419,10 @@ fn raise_inner(
     }
     let inner = depth - 1;
     let slots = slots_of(types);
-    let mut numbers = Vec::new(body.alloc);
+    let mut numbers = Vec::new(source.body.alloc);
     let mut end = at;
-    while let Some(line) = starts_at(source.code(), end) {
-        let (kind, behind) = kind_told(body, program, source, methods, types, inner, line, end)?;
+    while let Some(line) = starts_at(source.module.code(), end) {
+        let (kind, behind) = kind_told(source, program, types, inner, line, end)?;
         let Ok(number) = put_stmt(program, line, kind.row) else {
             return Err(Refusal::Memory);
         };
@@ -520,20 +456,16 @@ fn raise_inner(
 /// The block whose code stands at an address, behind variables of these types, as rows, and the
 /// address behind it; blocks stand in it so deep at most.
 pub fn raise_block(
-    alloc: Global,
+    source: &Source<'_>,
     program: &mut Program,
-    in_method: bool,
-    source: &Module,
-    methods: &[Callee],
-    types: &mut Vec<Ty>,
+    types: Vec<Ty>,
     depth: usize,
     at: usize,
 ) -> Result<(Span, usize), Refusal>
-    ensures told { let g = given source.now methods.now in
-        MakesAs (IsBlockSaid in_method (length types.old.items)) program.old program.new
-        (block_told g depth types.old.items at) result }
-    ensures types { IfOk result (λ x. types.new.items ≡ types.old.items) }
+    ensures told { MakesAs (IsBlockSaid source.now.body.in_method (length types.items)) program.old
+        program.new (block_told (given source.now) depth types.items at) result }
+    ensures grows { Extends program.old program.new }
 {
-    let body = Body { alloc, in_method };
-    raise_inner(body, program, source, methods, types, depth, at)
+    let mut behind = types;
+    raise_inner(source, program, &mut behind, depth, at)
 }

@@ -4,7 +4,7 @@ ghost use Rattle.std.specs.Prelude.{◌≡◌, ℕ, List, ◌∷◌, IfOk, Optio
 ghost use Rattle.rg_tree.specs.Tree as tree;
 ghost use Rattle.rg_tree.specs.Rows.RowTrees.{stmt_at, variable_of};
 ghost use Rattle.rg_tree.specs.Rows.RowsExist.{IsStmtNumber, IsVariableIn};
-ghost use Rattle.rg_tree.specs.Adds.{Adds};
+ghost use Rattle.rg_tree.specs.Adds.{Extends, Adds};
 ghost use Rattle.rg_verify.specs.Naming.{variable_name};
 ghost use Rattle.rg_verify.specs.Raised.{Raised, named};
 ghost use Rattle.rg_verify.specs.Rows.{IsTree, IsPath};
@@ -37,8 +37,9 @@ pub(crate) fn giving_row(
     program: &mut Program,
     given: Option<u32>,
 ) -> Result<Option<u32>, Memory>
-    ensures { IfOk result (λ o. Adds variable_of IsVariableIn program.old program.new o
+    ensures adds { IfOk result (λ o. Adds variable_of IsVariableIn program.old program.new o
         (option_map variable_name given)) }
+    ensures grows { Extends program.old program.new }
 {
     let Some(slot) = given else {
         return Ok(None);
@@ -50,8 +51,9 @@ pub(crate) fn giving_row(
 /// Adds a statement, whose names, expressions and blocks are there.
 pub(crate) fn put_stmt(program: &mut Program, line: u64, kind: StmtKind) -> Result<u32, Memory>
     requires { IsKindRow program.old kind }
-    ensures { IfOk result (λ n. Adds stmt_at IsStmtNumber program.old program.new n
+    ensures adds { IfOk result (λ n. Adds stmt_at IsStmtNumber program.old program.new n
         (tree.stmt line (kind_of program.old kind))) }
+    ensures grows { Extends program.old program.new }
 {
     let number = program.add_stmt(StmtRow { line, kind })?;
     Ok(number)
@@ -59,7 +61,8 @@ pub(crate) fn put_stmt(program: &mut Program, line: u64, kind: StmtKind) -> Resu
 
 /// Keeps statements as a block.
 pub(crate) fn put_block(program: &mut Program, numbers: &[u32]) -> Result<Span, Memory>
-    ensures { IfOk result (λ s. AddsBlock program.old program.new numbers.now s) }
+    ensures adds { IfOk result (λ s. AddsBlock program.old program.new numbers.now s) }
+    ensures grows { Extends program.old program.new }
 {
     let span = program.add_order(numbers)?;
     Ok(span)
@@ -73,9 +76,10 @@ pub(crate) fn entered(
     bridge: u32,
     window: WindowSaid,
 ) -> Result<KindSaid, Memory>
-    ensures { (q : tree.Path) (w : ℕ × statements.Block × Option ℕ) →
+    ensures enters { (q : tree.Path) (w : ℕ × statements.Block × Option ℕ) →
         IsPath program.old path q → IsWindowSaid body.in_method bridge program.old window w →
         IfOk result (Enters body.in_method bridge program.old program.new q w) }
+    ensures grows { Extends program.old program.new }
 {
     let name = add_name(body.alloc, program, b'v', bridge)?;
     let giving = giving_row(body, program, window.given)?;

@@ -8,10 +8,8 @@ use Rattle.rg_tree.specs.Rows.RowTrees.{call_of, right_of, kind_over, stmt_at}
 use Rattle.rg_tree.specs.Rows.RowsExist.{IsNameIn, IsCallIn, IsRightIn, IsKindIn}
 use Rattle.rg_tree.specs.Adds.{Extends, Means, Adds}
 use Rattle.rg_code.specs.declared.op.Op.{Op}
-use Rattle.rg_module.specs.Parts.{Parts}
 use Rattle.rg_verify.specs.declared.refusal.Refusal.{Refusal}
 use Rattle.rg_verify.specs.declared.refusal.Refusal.TheVariants as refusal
-use Rattle.rg_verify.specs.declared.callee.Callee.{Callee}
 use Rattle.rg_verify.specs.declared.signs.Walk.{Walk}
 use Rattle.rg_verify.specs.declared.signs.Walk.TheVariants as walk
 use Rattle.rg_verify.specs.Raised.{Raised, path_named}
@@ -22,6 +20,7 @@ use Rattle.rg_verify.specs.Statements.{enter, enter_field, print, collect, retur
 use Rattle.rg_verify.specs.Found.{call_named, right_named, kind_named}
 use Rattle.rg_verify.specs.Signs.{behind_of}
 use Rattle.rg_verify.specs.Blocks.{◌>>=◌, test, Given, Told, sign, is_room, paces}
+use Rattle.rg_raise.specs.declared.source.Source.{Source}
 use Rattle.rg_raise.specs.declared.said.CallSaid.{CallSaid}
 use Rattle.rg_raise.specs.declared.said.RightSaid.{RightSaid}
 use Rattle.rg_raise.specs.declared.said.KindSaid.{KindSaid}
@@ -29,8 +28,8 @@ use Rattle.rg_raise.specs.declared.said.After.{After}
 use Rattle.rg_raise.specs.declared.said.After.TheVariants as after
 
 -- what blocks are raised from
-abbrev pub given : Parts → List Callee → Given
-given m methods = record { ops = m.code.ops; maps = m.maps; methods = methods }
+abbrev pub given : Source → Given
+given s = record { ops = s.module.now.code.ops; maps = s.module.now.maps; methods = s.methods.now }
 
 -- `room` stands there: the expressions in front of it are arguments
 abbrev pub roomed : (ops : List Op) → (at : ℕ) → Option (Unit {0})

@@ -2,6 +2,7 @@
 
 ghost use Rattle.std.specs.Prelude.{◌≡◌, Bool as Truth, List};
 ghost use Rattle.rg_tree.specs.Rows.Tables.{Tables};
+ghost use Rattle.rg_tree.specs.Adds.{Extends};
 ghost use Rattle.rg_code.specs.declared.op.Op.{Op};
 ghost use Rattle.rg_verify.specs.Raised.{Front as OneFront};
 ghost use Rattle.rg_raise.specs.Fronts.{AreFrontRows, AreFrontsAt, AreLeft, MakesFronts, TakesFront};
@@ -21,7 +22,8 @@ pub fn raise_fronts(
     code: &CodeList,
     from: usize,
 ) -> Result<Fronts, Refusal>
-    ensures { MakesFronts program.old program.new body.in_method code.now.ops from result }
+    ensures told { MakesFronts program.old program.new body.in_method code.now.ops from result }
+    ensures grows { Extends program.old program.new }
 {
     if from > code.len() {
         let rows = Vec::new(body.alloc);

@@ -14,6 +14,7 @@ mod rights;
 mod row_parts;
 mod said;
 mod signs;
+mod source;
 mod types;
 mod uses;
 
@@ -22,5 +23,6 @@ pub use kinds::{element_written, object_by, taken};
 pub use rights::{array_row, made_behind};
 pub use row_parts::longer_path;
 pub use said::{After, Fronts, KindSaid, RightSaid, Stretch};
+pub use source::Source;
 pub use types::slot_type;
 pub use uses::behind_uses;

@@ -2,7 +2,7 @@
 
 ghost use Rattle.std.specs.Prelude.{◌≡◌, ◌+◌, ◌<◌, ◌^◌, ℕ, List, [], ◌∷◌, slice_get, IfSome, None};
 ghost use Rattle.rg_base.specs.declared.ty.Ty.{Ty as Types};
-ghost use Rattle.rg_verify.specs.declared.callee.Callee.{Callee as Callees};
+ghost use Rattle.rg_tree.specs.Adds.{Extends};
 ghost use Rattle.rg_verify.specs.Naming.{class_name};
 ghost use Rattle.rg_verify.specs.Raised.{Raised, named, Front as OneFront, expression};
 ghost use Rattle.rg_verify.specs.Rows.{IsTree};
@@ -17,10 +17,10 @@ use crate::fronts::{expressions, take_front};
 use crate::row_parts::{call_row, making_row};
 use crate::said::{CallSaid, Exprs, Fronts, RightSaid, Stretch};
 use crate::signs::{behind_at, call_at, making_at, walk_at};
+use crate::source::Source;
 use crate::uses::behind_uses;
 use rg_base::Ty;
 use rg_code::CodeList;
-use rg_module::Module;
 use rg_tree::{Path, Program, Right};
 use rg_verify::{Behind, Body, Callee, FrontRow, Making, Refusal, Walk, add_name};
 
@@ -33,31 +33,36 @@ fn callee_of(methods: &[Callee], number: u32) -> Option<Callee>
 
 /// A call on an object, behind its arguments and `room`.
 pub(crate) fn called(
-    body: Body,
+    source: &Source<'_>,
     program: &mut Program,
-    source: &Module,
-    methods: &[Callee],
     types: &Vec<Ty>,
     path: Path,
     args: &Exprs,
     at: usize,
 ) -> Result<(CallSaid, usize), Refusal>
-    ensures { (s : ℕ) (ks : List ℕ) (rs : List Raised) →
-        IsPathTo program.old body.in_method path s ks →
-        AreExprs program.old body.in_method source.now.code.ops args.now rs →
-        MakesAs (IsCallSaid body.in_method) program.old program.new
-        (blocks.called (given source.now methods.now) types.now.items s ks rs at) result }
+    ensures told { (s : ℕ) (ks : List ℕ) (rs : List Raised) →
+        IsPathTo program.old source.now.body.in_method path s ks →
+        AreExprs program.old source.now.body.in_method source.now.module.now.code.ops args.now rs →
+        MakesAs (IsCallSaid source.now.body.in_method) program.old program.new
+        (blocks.called (given source.now) types.now.items s ks rs at) result }
+    ensures grows { Extends program.old program.new }
 {
-    let Some(behind) = behind_uses(source.code(), types, args.code, at) else {
+    let Some(behind) = behind_uses(source.module.code(), types, args.code, at) else {
         return Err(Refusal::NotRaised);
     };
-    let Some(method) = call_at(source.code(), behind) else {
+    let Some(method) = call_at(source.module.code(), behind) else {
         return Err(Refusal::NotRaised);
     };
-    let Some(callee) = callee_of(methods, method) else {
+    let Some(callee) = callee_of(source.methods, method) else {
         return Err(Refusal::NotRaised);
     };
-    let Ok(row) = call_row(body, program, path, callee.place, args.rows.as_slice()) else {
+    let Ok(row) = call_row(
+        source.body,
+        program,
+        path,
+        callee.place,
+        args.rows.as_slice(),
+    ) else {
         return Err(Refusal::Memory);
     };
     let result = callee.result;
@@ -77,27 +82,26 @@ fn room_at(code: &CodeList, at: usize) -> Option<()>
 
 // The result of a call on an object, behind the arguments.
 fn result_by(
-    body: Body,
+    source: &Source<'_>,
     program: &mut Program,
-    source: &Module,
-    methods: &[Callee],
     types: &Vec<Ty>,
     path: Path,
     fronts: &Fronts,
 ) -> Result<(RightSaid, usize), Refusal>
-    ensures { (s : ℕ) (ks : List ℕ) (fs : List OneFront) →
-        IsPathTo program.old body.in_method path s ks →
-        AreLeft program.old body.in_method source.now.code.ops fronts.now fs →
-        MakesAs (IsRightSaid body.in_method) program.old program.new
-        (blocks.result_by (given source.now methods.now) types.now.items s ks (values_in fs)
+    ensures told { (s : ℕ) (ks : List ℕ) (fs : List OneFront) →
+        IsPathTo program.old source.now.body.in_method path s ks →
+        AreLeft program.old source.now.body.in_method source.now.module.now.code.ops fronts.now fs →
+        MakesAs (IsRightSaid source.now.body.in_method) program.old program.new
+        (blocks.result_by (given source.now) types.now.items s ks (values_in fs)
         fronts.now.code.end) result }
+    ensures grows { Extends program.old program.new }
 {
-    let args = expressions(body, fronts)?;
-    let Some(()) = room_at(source.code(), fronts.code.end) else {
+    let args = expressions(source.body, fronts)?;
+    let Some(()) = room_at(source.module.code(), fronts.code.end) else {
         return Err(Refusal::NotRaised);
     };
     let behind = fronts.code.end + 1;
-    let (call, end) = called(body, program, source, methods, types, path, &args, behind)?;
+    let (call, end) = called(source, program, types, path, &args, behind)?;
     let right = RightSaid {
         row: Right::Call(call.row),
         paces: false,
@@ -107,7 +111,8 @@ fn result_by(
 
 // Adds the name of a class.
 fn class_row(body: Body, program: &mut Program, class: u32) -> Result<u32, Refusal>
-    ensures { AddsName program.old program.new (class_name class) result }
+    ensures adds { AddsName program.old program.new (class_name class) result }
+    ensures grows { Extends program.old program.new }
 {
     let Ok(name) = add_name(body.alloc, program, b'c', class) else {
         return Err(Refusal::Memory);
@@ -122,8 +127,9 @@ pub fn array_row(
     walk: Walk,
     size: u32,
 ) -> Result<RightSaid, Refusal>
-    ensures { (e : Raised) → IsTree program.old size (named body.in_method e) →
+    ensures told { (e : Raised) → IsTree program.old size (named body.in_method e) →
         MakesOne (IsRightSaid body.in_method) program.old program.new (array_of walk e) result }
+    ensures grows { Extends program.old program.new }
 {
     let size = Some(size);
     match walk {
@@ -152,20 +158,19 @@ pub fn array_row(
 
 // A value, behind which the slots that it uses up are cleared.
 fn value_at(
-    body: Body,
+    source: &Source<'_>,
     program: &Program,
-    source: &Module,
     types: &Vec<Ty>,
     row: u32,
     code: Stretch,
 ) -> Result<(RightSaid, usize), Refusal>
-    ensures { (methods : List Callees) (e : Raised) →
-        IsTree program.now row (named body.in_method e) →
-        Spans source.now.code.ops code (expression e ∷ []) →
-        MakesAs (IsRightSaid body.in_method) program.now program.now
-        (blocks.right_by (given source.now methods) types.now.items e code.end None) result }
+    ensures { (e : Raised) →
+        IsTree program.now row (named source.now.body.in_method e) →
+        Spans source.now.module.now.code.ops code (expression e ∷ []) →
+        MakesAs (IsRightSaid source.now.body.in_method) program.now program.now
+        (blocks.right_by (given source.now) types.now.items e code.end None) result }
 {
-    let Some(end) = behind_uses(source.code(), types, code, code.end) else {
+    let Some(end) = behind_uses(source.module.code(), types, code, code.end) else {
         return Err(Refusal::NotRaised);
     };
     let row = Right::Expr(row);
@@ -174,24 +179,24 @@ fn value_at(
 
 // A right side that begins with an expression alone, by what stands behind that.
 fn right_by(
-    body: Body,
+    source: &Source<'_>,
     program: &mut Program,
-    source: &Module,
     types: &Vec<Ty>,
     row: u32,
     code: Stretch,
 ) -> Result<(RightSaid, usize), Refusal>
-    ensures { (methods : List Callees) (e : Raised) →
-        IsTree program.old row (named body.in_method e) →
-        Spans source.now.code.ops code (expression e ∷ []) →
-        MakesAs (IsRightSaid body.in_method) program.old program.new
-        (blocks.right_by (given source.now methods) types.now.items e code.end
-        (sign walk_of source.now.code.ops code.end)) result }
+    ensures told { (e : Raised) →
+        IsTree program.old row (named source.now.body.in_method e) →
+        Spans source.now.module.now.code.ops code (expression e ∷ []) →
+        MakesAs (IsRightSaid source.now.body.in_method) program.old program.new
+        (blocks.right_by (given source.now) types.now.items e code.end
+        (sign walk_of source.now.module.now.code.ops code.end)) result }
+    ensures grows { Extends program.old program.new }
 {
-    match walk_at(source.code(), code.end) {
-        None => value_at(body, program, source, types, row, code),
+    match walk_at(source.module.code(), code.end) {
+        None => value_at(source, program, types, row, code),
         Some(walk) => {
-            let right = array_row(body, program, walk, row)?;
+            let right = array_row(source.body, program, walk, row)?;
             Ok((right, code.end + 1))
         }
     }
@@ -210,20 +215,20 @@ fn is_paced(making: Making) -> bool
 
 /// A right side of one instruction.
 pub fn made_behind(
-    body: Body,
+    source: &Source<'_>,
     program: &mut Program,
-    source: &Module,
     at: usize,
 ) -> Result<(RightSaid, usize), Refusal>
-    ensures { (methods : List Callees) (types : List Types) →
-        MakesAs (IsRightSaid body.in_method) program.old program.new
-        (blocks.right_behind (given source.now methods) types [] at) result }
+    ensures told { (types : List Types) →
+        MakesAs (IsRightSaid source.now.body.in_method) program.old program.new
+        (blocks.right_behind (given source.now) types [] at) result }
+    ensures grows { Extends program.old program.new }
 {
-    let Some(making) = making_at(source.code(), at) else {
+    let Some(making) = making_at(source.module.code(), at) else {
         return Err(Refusal::NotRaised);
     };
     let paces = is_paced(making);
-    let Ok(row) = making_row(body, program, making) else {
+    let Ok(row) = making_row(source.body, program, making) else {
         return Err(Refusal::Memory);
     };
     Ok((RightSaid { row, paces }, at + 1))
@@ -231,31 +236,28 @@ pub fn made_behind(
 
 /// A right side, behind what it begins with.
 pub(crate) fn right_behind(
-    body: Body,
+    source: &Source<'_>,
     program: &mut Program,
-    source: &Module,
-    methods: &[Callee],
     types: &Vec<Ty>,
     fronts: Fronts,
 ) -> Result<(RightSaid, usize), Refusal>
-    ensures { (fs : List OneFront) →
-        AreLeft program.old body.in_method source.now.code.ops fronts fs →
-        MakesAs (IsRightSaid body.in_method) program.old program.new
-        (blocks.right_behind (given source.now methods.now) types.now.items fs fronts.code.end)
+    ensures told { (fs : List OneFront) →
+        AreLeft program.old source.now.body.in_method source.now.module.now.code.ops fronts fs →
+        MakesAs (IsRightSaid source.now.body.in_method) program.old program.new
+        (blocks.right_behind (given source.now) types.now.items fs fronts.code.end)
         result }
+    ensures grows { Extends program.old program.new }
 {
     let mut rest = fronts;
     match take_front(&mut rest.rows) {
-        None => made_behind(body, program, source, rest.code.end),
+        None => made_behind(source, program, rest.code.end),
         Some(FrontRow::Expression { row }) => {
             if rest.rows.len() != 0 {
                 return Err(Refusal::NotRaised);
             }
-            right_by(body, program, source, types, row, rest.code)
+            right_by(source, program, types, row, rest.code)
         }
-        Some(FrontRow::Object { path }) => {
-            result_by(body, program, source, methods, types, path, &rest)
-        }
+        Some(FrontRow::Object { path }) => { result_by(source, program, types, path, &rest) }
         Some(FrontRow::Place { path: _, index: _ }) => Err(Refusal::NotRaised),
     }
 }

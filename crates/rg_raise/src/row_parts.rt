@@ -4,7 +4,7 @@ ghost use Rattle.std.specs.Prelude.{◌≡◌, ℕ, List, [], ◌∷◌, ◌++�
 ghost use Rattle.rg_tree.specs.Rows.Tables.{numbers_in};
 ghost use Rattle.rg_tree.specs.Rows.RowTrees.{type_of, path_of, right_of, call_of};
 ghost use Rattle.rg_tree.specs.Rows.RowsExist.{IsWithin, IsTypeIn, IsPathIn, IsRightIn, IsCallIn};
-ghost use Rattle.rg_tree.specs.Adds.{Adds};
+ghost use Rattle.rg_tree.specs.Adds.{Extends, Adds};
 ghost use Rattle.rg_verify.specs.Naming.{written};
 ghost use Rattle.rg_verify.specs.Raised.{named, path_named};
 ghost use Rattle.rg_verify.specs.Statements as statements;
@@ -19,7 +19,8 @@ use rg_verify::{Body, Making, add_name};
 
 /// Adds what a type needs.
 pub(crate) fn type_row(body: Body, program: &mut Program, ty: Ty) -> Result<TypeRow, Memory>
-    ensures { IfOk result (λ r. Adds type_of IsTypeIn program.old program.new r (written ty)) }
+    ensures adds { IfOk result (λ r. Adds type_of IsTypeIn program.old program.new r (written ty)) }
+    ensures grows { Extends program.old program.new }
 {
     match ty {
         Ty::Int => Ok(TypeRow::Int),
@@ -33,8 +34,9 @@ pub(crate) fn type_row(body: Body, program: &mut Program, ty: Ty) -> Result<Type
 
 /// Adds what a right side of one instruction needs.
 pub(crate) fn making_row(body: Body, program: &mut Program, making: Making) -> Result<Right, Memory>
-    ensures { IfOk result (λ r. Adds right_of IsRightIn program.old program.new r
+    ensures adds { IfOk result (λ r. Adds right_of IsRightIn program.old program.new r
         (right_named body.in_method (blocks.right_of making))) }
+    ensures grows { Extends program.old program.new }
 {
     match making {
         Making::New { class } => {
@@ -89,9 +91,10 @@ pub fn longer_path(
     index: u32,
 ) -> Result<Path, Memory>
     requires { (s : ℕ) × (ks : List ℕ) × IsPathTo program.old body.in_method path s ks }
-    ensures { (s : ℕ) (ks : List ℕ) → IsPathTo program.old body.in_method path s ks →
+    ensures adds { (s : ℕ) (ks : List ℕ) → IsPathTo program.old body.in_method path s ks →
         IfOk result (λ p. Adds path_of IsPathIn program.old program.new p
         (path_named body.in_method s (ks ++ index ∷ []))) }
+    ensures grows { Extends program.old program.new }
 {
     let name = add_name(body.alloc, program, b'f', index)?;
     let names = longer(body, program, path, name)?;
@@ -110,11 +113,12 @@ pub(crate) fn call_row(
     place: u32,
     args: &[u32],
 ) -> Result<CallRow, Memory>
-    ensures { (c : statements.Call) → c.callee.place ≡ place →
+    ensures adds { (c : statements.Call) → c.callee.place ≡ place →
         IsPathTo program.old body.in_method path c.slot c.fields →
         AreTrees program.old args.now (map (named body.in_method) c.args) →
         IfOk result (λ r. Adds call_of IsCallIn program.old program.new r
         (call_named body.in_method c)) }
+    ensures grows { Extends program.old program.new }
 {
     let method = add_name(body.alloc, program, b'm', place)?;
     let args = program.add_order(args)?;

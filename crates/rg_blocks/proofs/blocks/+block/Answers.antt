@@ -32,16 +32,16 @@ use Rattle.rg_blocks.proofs.blocks.+block.Goals as goal
 
 pub otherwise_told-returns-clause-told : goal.otherwise_told-returns-clause-told
 otherwise_told-returns-clause-told b c e k is block =
-    let m = c.args.body.in_method in
-    let g = given c.args.source.now c.args.methods.now in
+    let m = c.args.source.now.body.in_method in
+    let g = given c.args.source.now in
     let ends = rw (c.code.ensures, c.slots_of.ensures) at c.in-Some.ensures in
     otherwise-made m g (block_told g c.args.depth) c.args.types.now.items c.args.line c.args.program.now c.raise_inner.new.program c.args.test e
     c.args.yes c.in_ok-no.no k c.args.to c.args.at c.in_ok-no.behind c.in-Some.end is block c.in_ok-no.ensures.told (sym ends) c.if-to-end.false
 
 pub tested-returns-then-fails-end-clause-told : goal.tested-returns-then-fails-end-clause-told
 tested-returns-then-fails-end-clause-told b c e is =
-    let m = c.args.body.in_method in
-    let g = given c.args.source.now c.args.methods.now in
+    let m = c.args.source.now.body.in_method in
+    let g = given c.args.source.now in
     let ends = rw (c.code.ensures, c.slots_of.ensures) at c.in-Some.ensures in
     tested-made m g (block_told g c.args.depth) c.args.types.now.items c.args.line c.args.start c.args.program.now c.raise_inner.new.program c.args.test e
     c.in_ok-yes.yes c.args.fails c.args.at c.in_ok-yes.behind c.in-Some.end is c.in_ok-yes.ensures.told (sym ends) c.if-fails-end.true
@@ -52,13 +52,13 @@ tested-returns-clause-told b c e is = ?
 pub close_by-returns-in-None-clause-told : goal.close_by-returns-in-None-clause-told
 close_by-returns-in-None-clause-told b c e is =
     let t = c.args.program.now in
-    let m = c.args.body.in_method in
-    let g = given c.args.source.now c.args.methods.now in
+    let m = c.args.source.now.body.in_method in
+    let g = given c.args.source.now in
     let types = c.args.types.now.items in
     let told = rw c.code.ensures at c.in-None.ensures.told in
     subst (λ (w : Option Close). MakesAs (IsKindSaid m (length types)) t c.taken.new.program
     (close_by g (block_told g c.args.depth) types c.args.line c.args.start e c.args.at w) c.taken.result) told
-    (c.taken.ensures c.args.methods.now (value e)
+    (c.taken.ensures.told (value e)
     (means-one {at = right_of} {exists = IsRightIn} right_row.Expr tree.value (λ w x. refl) (λ w x i. i) is, refl))
 
 -- windows
@@ -66,17 +66,17 @@ close_by-returns-in-None-clause-told b c e is =
 pub window-returns-in_err-block-clause-told : goal.window-returns-in_err-block-clause-told
 window-returns-in_err-block-clause-told b c =
     let p = err_from_is_err_and c.from_residual.result c.from_residual.ensures.1 in
-    let g = given c.args.source.now c.args.methods.now in
+    let g = given c.args.source.now in
     let next = sym (c.if-bridge-slots.false ∙ c.slots_of.ensures) in
-    rw (p.1, p.2) (window-closed c.args.body.in_method g (block_told g c.args.depth) c.args.types.now.items c.args.line c.args.bridge c.args.at (sym next)
+    rw (p.1, p.2) (window-closed c.args.source.now.body.in_method g (block_told g c.args.depth) c.args.types.now.items c.args.line c.args.bridge c.args.at (sym next)
     c.in-Some.ty (sym c.in-Some.ensures) c.in-Some-bridge_class.class (sym c.in-Some-bridge_class.ensures) c.args.program.now
     c.raise_inner.new.program c.in_err-block.field-0.0 c.in_err-block.ensures.told)
 
 pub window-returns-clause-told : goal.window-returns-clause-told
 window-returns-clause-told b c =
-    let g = given c.args.source.now c.args.methods.now in
+    let g = given c.args.source.now in
     let ends = rw (c.code.ensures, c.slots_of.ensures) at c.in-Some-behind_leave.ensures in
-    window-made c.args.body.in_method g (block_told g c.args.depth) c.args.types.now.items c.args.line c.args.bridge c.args.at
+    window-made c.args.source.now.body.in_method g (block_told g c.args.depth) c.args.types.now.items c.args.line c.args.bridge c.args.at
     (c.if-bridge-slots.false ∙ c.slots_of.ensures) c.in-Some.ty (sym c.in-Some.ensures) c.in-Some-bridge_class.class (sym c.in-Some-bridge_class.ensures)
     c.args.program.now c.raise_inner.new.program c.in_ok-block.block c.in_ok-block.behind c.in-Some-behind_leave.given c.in-Some-behind_leave.end
     c.in_ok-block.ensures.told (sym ends)
@@ -85,8 +85,8 @@ window-returns-clause-told b c =
 
 pub field_entered-returns-in_default-clause-told : goal.field_entered-returns-in_default-clause-told
 field_entered-returns-in_default-clause-told b c e is =
-    let m = c.args.body.in_method in
-    let g = given c.args.source.now c.args.methods.now in
+    let m = c.args.source.now.body.in_method in
+    let g = given c.args.source.now in
     field-unfound m g (block_told g c.args.depth) c.args.types.now.items c.args.line c.args.start e c.args.index c.args.bridge c.args.at
     (finds-no-path c.args.program.now m (path_in e) (c.in_default.ensures e is))
 
@@ -94,8 +94,8 @@ pub field_entered-returns-in_err-inside-clause-told : goal.field_entered-returns
 field_entered-returns-in_err-inside-clause-told b c e is =
     let p = err_from_is_err_and c.from_residual.result c.from_residual.ensures.1 in
     let t = c.args.program.now in
-    let m = c.args.body.in_method in
-    let g = given c.args.source.now c.args.methods.now in
+    let m = c.args.source.now.body.in_method in
+    let g = given c.args.source.now in
     let (q, found, path) = finds-path t m (path_in e) c.in-Some.path (c.in-Some.ensures e is) in
     rw (p.1, p.2) (field-closed m g (block_told g c.args.depth) c.args.types.now.items c.args.line c.args.start e c.args.index c.args.bridge c.args.at q found
     t c.window.new.program c.in_err-inside.field-0.0 c.in_err-inside.ensures.told)
@@ -103,8 +103,8 @@ field_entered-returns-in_err-inside-clause-told b c e is =
 pub field_entered-longer_path-requires : goal.field_entered-longer_path-requires
 field_entered-longer_path-requires b c =
     let t = c.args.program.now in
-    let m = c.args.body.in_method in
-    let g = given c.args.source.now c.args.methods.now in
+    let m = c.args.source.now.body.in_method in
+    let g = given c.args.source.now in
     let types = c.args.types.now.items in
     let (e, is) = c.requires.tree in
     let (q, found, path) = finds-path t m (path_in e) c.in-Some.path (c.in-Some.ensures e is) in
@@ -116,8 +116,8 @@ field_entered-longer_path-requires b c =
 pub field_entered-returns-clause-told : goal.field_entered-returns-clause-told
 field_entered-returns-clause-told b c e is =
     let t = c.args.program.now in
-    let m = c.args.body.in_method in
-    let g = given c.args.source.now c.args.methods.now in
+    let m = c.args.source.now.body.in_method in
+    let g = given c.args.source.now in
     let types = c.args.types.now.items in
     let (q, found, path) = finds-path t m (path_in e) c.in-Some.path (c.in-Some.ensures e is) in
     let (x, told, grown, said) = makes-some (IsWindowSaid m (length types)) t c.window.new.program
@@ -125,19 +125,19 @@ field_entered-returns-clause-told b c e is =
     c.in_ok-inside.ensures.told in
     field-made m g (block_told g c.args.depth) types c.args.line c.args.start e c.args.index c.args.bridge c.args.at q found
     t c.window.new.program c.longer_path.new.program c.entered.new.program c.in_ok-inside.inside c.in_ok-inside.end c.in-Ok.path c.in-Ok-entered.kind
-    c.in_ok-inside.ensures.told c.in_ok-inside.ensures.next (c.in-Ok.ensures q.0 q.1 (means-later path grown)) c.in-Ok-entered.ensures
+    c.in_ok-inside.ensures.told c.in_ok-inside.ensures.next (c.in-Ok.ensures.adds q.0 q.1 (means-later path grown)) c.in-Ok-entered.ensures.enters
 
 -- blocks
 
 pub raise_inner-returns-then-depth-eq0-clause-told : goal.raise_inner-returns-then-depth-eq0-clause-told
 raise_inner-returns-then-depth-eq0-clause-told b c =
-    block-none (given c.args.source.now c.args.methods.now) c.args.depth c.args.types.now.items c.args.at c.if-depth-eq0.true
+    block-none (given c.args.source.now) c.args.depth c.args.types.now.items c.args.at c.if-depth-eq0.true
 
 pub raise_inner-loop-line-init : goal.raise_inner-loop-line-init
 raise_inner-loop-line-init b c =
     let t = c.args.program.now in
     let types = c.args.types.now.items in
-    let g = given c.args.source.now c.args.methods.now in
+    let g = given c.args.source.now in
     let inner = block_told g (c.args.depth - 1) in
-    subst (λ (ns : List ℕ). Looping c.args.body.in_method g inner t t types types ns c.args.at c.args.at) (sym c.new-numbers.ensures.items)
-    (looping-begins c.args.body.in_method g inner t types c.args.at)
+    subst (λ (ns : List ℕ). Looping c.args.source.now.body.in_method g inner t t types types ns c.args.at c.args.at) (sym c.new-numbers.ensures.items)
+    (looping-begins c.args.source.now.body.in_method g inner t types c.args.at)

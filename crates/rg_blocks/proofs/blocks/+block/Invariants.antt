@@ -39,8 +39,8 @@ decreases-raise_inner l = 16 * l.depth
 
 abbrev pub invariant-raise_inner-loop-line : goal.invariant-raise_inner-loop-line
 invariant-raise_inner-loop-line l =
-    let g = given l.source l.methods in
-    Looping l.body.in_method g (block_told g l.inner) l.fn.program l.program l.fn.types.items l.types.items l.numbers.items l.at l.end
+    let g = given l.source in
+    Looping l.source.body.in_method g (block_told g l.inner) l.fn.program l.program l.fn.types.items l.types.items l.numbers.items l.at l.end
 
 abbrev pub decreases-raise_inner-loop-line : goal.decreases-raise_inner-loop-line
-decreases-raise_inner-loop-line l = length l.source.code.ops - l.end
+decreases-raise_inner-loop-line l = length l.source.module.now.code.ops - l.end

@@ -1,6 +1,6 @@
 use Rattle.std.proofs.Common.{sym}
 use Rattle.std.proofs.lemmas.Result.{err_from_is_err_and}
-use Rattle.rg_tree.proofs.Adding.{means-later}
+use Rattle.rg_tree.proofs.Adding.{extends-trans, means-later}
 use Rattle.rg_verify.specs.Blocks.{right_behind}
 use Rattle.rg_raise.specs.Telling.{given, IsRightSaid}
 use Rattle.rg_raise.proofs.Telling.{makes-some}
@@ -10,56 +10,62 @@ use Rattle.rg_raise.proofs.kinds.written_to.Goals as goal
 pub longer_path-requires : goal.longer_path-requires
 longer_path-requires c =
     let t = c.args.program.now in
-    let m = c.args.body.in_method in
-    let g = given c.args.source.now c.args.methods.now in
+    let m = c.args.source.now.body.in_method in
+    let g = given c.args.source.now in
     let types = c.args.types.now.items in
     let (s, ks, path) = c.requires.path in
     let (fs, left) = c.requires.left in
     let (r, told, grown, said) = makes-some (IsRightSaid m) t c.right_behind.new.program (right_behind g types fs c.args.fronts.code.end)
-    c.in_ok-right.right c.in_ok-right.behind (c.in_ok-right.ensures fs left) in
+    c.in_ok-right.right c.in_ok-right.behind (c.in_ok-right.ensures.told fs left) in
     (s, ks, means-later path grown)
 
-pub returns-in_err-right : goal.returns-in_err-right
-returns-in_err-right c s ks fs path left =
+pub returns-in_err-right-clause-told : goal.returns-in_err-right-clause-told
+returns-in_err-right-clause-told c s ks fs path left =
     let p = err_from_is_err_and c.from_residual.result c.from_residual.ensures.1 in
     let t = c.args.program.now in
     let u = c.right_behind.new.program in
-    rw (p.1, p.2) (write-refused (given c.args.source.now c.args.methods.now) c.args.types.now.items s ks fs c.args.fronts.code.end t u t u
-    c.args.body.in_method c.in_err-right.field-0.0 (c.in_err-right.ensures fs left))
+    rw (p.1, p.2) (write-refused (given c.args.source.now) c.args.types.now.items s ks fs c.args.fronts.code.end t u t u
+    c.args.source.now.body.in_method c.in_err-right.field-0.0 (c.in_err-right.ensures.told fs left))
 
-pub returns-in_default : goal.returns-in_default
-returns-in_default c s ks fs path left =
+pub returns-in_default-clause-told : goal.returns-in_default-clause-told
+returns-in_default-clause-told c s ks fs path left =
     let t = c.args.program.now in
-    let m = c.args.body.in_method in
-    let g = given c.args.source.now c.args.methods.now in
+    let m = c.args.source.now.body.in_method in
+    let g = given c.args.source.now in
     let types = c.args.types.now.items in
     let put = rw c.code.ensures at c.in_default.ensures.told in
     let (r, told, grown, said) = makes-some (IsRightSaid m) t c.right_behind.new.program (right_behind g types fs c.args.fronts.code.end)
-    c.in_ok-right.right c.in_ok-right.behind (c.in_ok-right.ensures fs left) in
+    c.in_ok-right.right c.in_ok-right.behind (c.in_ok-right.ensures.told fs left) in
     write-nowhere g types s ks fs c.args.fronts.code.end r c.in_ok-right.behind told (sym put)
 
-pub returns-in_default-behind_pace : goal.returns-in_default-behind_pace
-returns-in_default-behind_pace c s ks fs path left =
+pub returns-in_default-behind_pace-clause-told : goal.returns-in_default-behind_pace-clause-told
+returns-in_default-behind_pace-clause-told c s ks fs path left =
     let t = c.args.program.now in
-    let m = c.args.body.in_method in
-    let g = given c.args.source.now c.args.methods.now in
+    let m = c.args.source.now.body.in_method in
+    let g = given c.args.source.now in
     let types = c.args.types.now.items in
     let put = rw c.code.ensures at c.in-Some.ensures.told in
     let pace = rw c.code-2.ensures at c.in_default-behind_pace.ensures in
     let (r, told, grown, said) = makes-some (IsRightSaid m) t c.right_behind.new.program (right_behind g types fs c.args.fronts.code.end)
-    c.in_ok-right.right c.in_ok-right.behind (c.in_ok-right.ensures fs left) in
+    c.in_ok-right.right c.in_ok-right.behind (c.in_ok-right.ensures.told fs left) in
     write-unpaced g types s ks fs c.args.fronts.code.end r c.in_ok-right.behind told c.in-Some.field (sym put) c.in_ok-right.right.paces said.1 (sym pace)
 
-pub returns : goal.returns
-returns c s ks fs path left =
+pub returns-clause-told : goal.returns-clause-told
+returns-clause-told c s ks fs path left =
     let t = c.args.program.now in
-    let m = c.args.body.in_method in
-    let g = given c.args.source.now c.args.methods.now in
+    let m = c.args.source.now.body.in_method in
+    let g = given c.args.source.now in
     let types = c.args.types.now.items in
     let put = rw c.code.ensures at c.in-Some.ensures.told in
     let pace = rw c.code-2.ensures at c.in-Some-behind_pace.ensures in
     let (r, told, grown, said) = makes-some (IsRightSaid m) t c.right_behind.new.program (right_behind g types fs c.args.fronts.code.end)
-    c.in_ok-right.right c.in_ok-right.behind (c.in_ok-right.ensures fs left) in
+    c.in_ok-right.right c.in_ok-right.behind (c.in_ok-right.ensures.told fs left) in
     write-made g types s ks fs c.args.fronts.code.end r c.in_ok-right.behind told c.in-Some.field (sym put) c.in_ok-right.right.paces said.1
     t c.right_behind.new.program c.longer_path.new.program m c.in-Some-behind_pace.end c.in_ok-right.right c.in-Ok.path (sym pace) grown said
-    (c.in-Ok.ensures s ks (means-later path grown))
+    (c.in-Ok.ensures.adds s ks (means-later path grown))
+
+pub returns-in_default-longer_path-clause-grows : goal.returns-in_default-longer_path-clause-grows
+returns-in_default-longer_path-clause-grows c = extends-trans c.in_ok-right.ensures.grows c.in_default-longer_path.ensures.grows
+
+pub returns-clause-grows : goal.returns-clause-grows
+returns-clause-grows c = extends-trans c.in_ok-right.ensures.grows c.in-Ok.ensures.grows

@@ -8,21 +8,21 @@ use Rattle.rg_raise.proofs.FrontRows.{none-left, some-left, taken-none, taken-ex
 use Rattle.rg_raise.proofs.RightSides.{right-many}
 use Rattle.rg_raise.proofs.rights.right_behind.Goals as goal
 
-pub returns-in-None : goal.returns-in-None
-returns-in-None c fs left =
+pub returns-in-None-clause-told : goal.returns-in-None-clause-told
+returns-in-None-clause-told c fs left =
     let t = c.args.program.now in
-    let m = c.args.body.in_method in
-    let g = given c.args.source.now c.args.methods.now in
+    let m = c.args.source.now.body.in_method in
+    let g = given c.args.source.now in
     let types = c.args.types.now.items in
     let none = taken-none t m c.take_front.new.rows.items fs (c.in-None.ensures t m fs left.rows) in
     subst (λ (ys : List Front). MakesAs (IsRightSaid m) t c.made_behind.new.program (right_behind g types ys c.args.fronts.code.end)
-    c.made_behind.result) (sym none) (c.made_behind.ensures c.args.methods.now types)
+    c.made_behind.result) (sym none) (c.made_behind.ensures.told types)
 
-pub returns-then-len-ne0 : goal.returns-then-len-ne0
-returns-then-len-ne0 c fs left =
+pub returns-then-len-ne0-clause-told : goal.returns-then-len-ne0-clause-told
+returns-then-len-ne0-clause-told c fs left =
     let t = c.args.program.now in
-    let m = c.args.body.in_method in
-    let g = given c.args.source.now c.args.methods.now in
+    let m = c.args.source.now.body.in_method in
+    let g = given c.args.source.now in
     let types = c.args.types.now.items in
     let end = c.args.fronts.code.end in
     let new = c.take_front.new.rows.items in
@@ -32,11 +32,11 @@ returns-then-len-ne0 c fs left =
     ∙ right-many g types e xs end
     (some-left t m new xs rest (λ z. let other = c.if-len-ne0.true in let n = c.len.ensures in grind (arith, nat_tests)))
 
-pub returns-in-Some-Expression : goal.returns-in-Some-Expression
-returns-in-Some-Expression c fs left =
+pub returns-in-Some-Expression-clause-told : goal.returns-in-Some-Expression-clause-told
+returns-in-Some-Expression-clause-told c fs left =
     let t = c.args.program.now in
-    let m = c.args.body.in_method in
-    let g = given c.args.source.now c.args.methods.now in
+    let m = c.args.source.now.body.in_method in
+    let g = given c.args.source.now in
     let types = c.args.types.now.items in
     let end = c.args.fronts.code.end in
     let new = c.take_front.new.rows.items in
@@ -45,26 +45,26 @@ returns-in-Some-Expression c fs left =
     let zero : length new ≡ 0 = let is = c.if-len-ne0.false in let n = c.len.ensures in grind (arith, nat_tests) in
     let all : fs ≡ expression e ∷ [] = same ∙ ap (λ (ys : List Front). expression e ∷ ys) (none-left t m new xs rest zero) in
     subst (λ (ys : List Front). MakesAs (IsRightSaid m) t c.right_by.new.program (right_behind g types ys end) c.right_by.result) (sym all)
-    (c.right_by.ensures c.args.methods.now e tree (λ ts. left.spans ts ∙ ap (used_in ts) all))
+    (c.right_by.ensures.told e tree (λ ts. left.spans ts ∙ ap (used_in ts) all))
 
-pub returns-in-Some-Object : goal.returns-in-Some-Object
-returns-in-Some-Object c fs left =
+pub returns-in-Some-Object-clause-told : goal.returns-in-Some-Object-clause-told
+returns-in-Some-Object-clause-told c fs left =
     let t = c.args.program.now in
-    let m = c.args.body.in_method in
-    let g = given c.args.source.now c.args.methods.now in
+    let m = c.args.source.now.body.in_method in
+    let g = given c.args.source.now in
     let types = c.args.types.now.items in
     let end = c.args.fronts.code.end in
     let new = c.take_front.new.rows.items in
     let (s, ks, xs, same, path, rest) = taken-object t m new fs c.in-Some-Object.field-0 c.in-Some-Object.path c.in-Some-Object.field-0-is
     (c.in-Some-Object.ensures t m fs left.rows) in
     subst (λ (ys : List Front). MakesAs (IsRightSaid m) t c.result_by.new.program (right_behind g types ys end) c.result_by.result) (sym same)
-    (c.result_by.ensures s ks xs path (record { rows = rest; spans = λ ts. left.spans ts ∙ ap (used_in ts) same }))
+    (c.result_by.ensures.told s ks xs path (record { rows = rest; spans = λ ts. left.spans ts ∙ ap (used_in ts) same }))
 
-pub returns : goal.returns
-returns c fs left =
+pub returns-clause-told : goal.returns-clause-told
+returns-clause-told c fs left =
     let t = c.args.program.now in
-    let m = c.args.body.in_method in
-    let g = given c.args.source.now c.args.methods.now in
+    let m = c.args.source.now.body.in_method in
+    let g = given c.args.source.now in
     let types = c.args.types.now.items in
     let end = c.args.fronts.code.end in
     let (s, ks, e, xs, same) = taken-place t m c.take_front.new.rows.items fs c.in-Some-Place.field-0 c.in-Some-Place.field-0-0 c.in-Some-Place.field-0-1
