@@ -4,3 +4,5 @@ mod Going
 mod BlockParts
 mod BlockRows
 mod Turns
+mod Firsts
+mod Exprs

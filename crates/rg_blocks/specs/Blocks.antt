@@ -1,5 +1,6 @@
 -- What calls make of blocks that are told at an address.
 use Rattle.std.specs.Prelude.{◌≡◌, ℕ, ◌+◌, Bool as Truth, List, [], ◌∷◌, All, map, Option, Some, None, option_map}
+use Rattle.rg_base.specs.declared.ty.Ty.{Ty}
 use Rattle.rg_tree.specs.declared.rows.Path as rows
 use Rattle.rg_tree.specs.declared.rows.Span.{Span}
 use Rattle.rg_tree.specs.Tree as tree
@@ -8,12 +9,21 @@ use Rattle.rg_tree.specs.Rows.RowTrees.{stmt_at, block_of}
 use Rattle.rg_tree.specs.Rows.RowsExist.{IsStmtNumber, IsBlockIn}
 use Rattle.rg_tree.specs.Adds.{Extends, Means, Adds}
 use Rattle.rg_verify.specs.Naming.{variable_name}
-use Rattle.rg_verify.specs.Statements.{Block}
+use Rattle.rg_verify.specs.declared.signs.Walk.{Walk}
+use Rattle.rg_verify.specs.Raised.{Raised}
+use Rattle.rg_verify.specs.Statements.{Block, Kind}
 use Rattle.rg_verify.specs.Found.{block_named}
+use Rattle.rg_verify.specs.Blocks.{◌>>=◌, Given, Told, taken}
 use Rattle.rg_raise.specs.declared.said.KindSaid.{KindSaid}
 use Rattle.rg_raise.specs.declared.said.After.TheVariants as after
-use Rattle.rg_raise.specs.Telling.{IsPathTo, kind_of, IsKindRow}
+use Rattle.rg_raise.specs.Telling.{array_of, IsPathTo, kind_of, IsKindRow}
 use Rattle.rg_blocks.specs.declared.said.WindowSaid.{WindowSaid}
+
+-- a new array of so many elements goes into a slot
+abbrev pub array_told : Given → (types : List Ty) → Raised → (at : ℕ) → Walk → Told Kind
+array_told g types e at w = do
+  r ← array_of w e
+  taken g types r (at + 1)
 
 -- the path that an expression is, or that it is none
 abbrev pub FindsPath : Tables → (in_method : Truth) → (wanted : Option (ℕ × List ℕ)) → Option rows.Path → Type 0

@@ -4,24 +4,25 @@ ghost use Rattle.std.specs.Prelude.{◌≡◌, ◌+◌, ◌<◌, ◌^◌, ℕ, L
 ghost use Rattle.rg_tree.specs.Adds.{Extends};
 ghost use Rattle.rg_verify.specs.Raised.{Raised, named, Front as OneFront, expression};
 ghost use Rattle.rg_verify.specs.declared.signs.Walk.TheVariants as walk;
+ghost use Rattle.rg_verify.specs.declared.signs.Open.TheVariants as opens;
 ghost use Rattle.rg_verify.specs.Rows.{IsTree};
 ghost use Rattle.rg_verify.specs.Signs.{close_of, open_of, walk_of};
 ghost use Rattle.rg_verify.specs.Statements as statements;
 ghost use Rattle.rg_verify.specs.Blocks as blocks;
-ghost use Rattle.rg_verify.specs.Blocks.{sign, block_told};
+ghost use Rattle.rg_verify.specs.Blocks.{Inner, sign, block_told};
 ghost use Rattle.rg_raise.specs.Fronts.{Spans, TakesFirst};
 ghost use Rattle.rg_raise.specs.Telling.{given, MakesAs, IsKindSaid};
-ghost use Rattle.rg_blocks.specs.Blocks.{IsBlockSaid, IsWindowSaid};
+ghost use Rattle.rg_blocks.specs.Blocks.{IsBlockSaid, IsWindowSaid, array_told};
 
 use crate::ends::{behind_end, behind_leave, starts_at};
 use crate::parts::{entered, path_in, put_block, put_stmt};
 use crate::said::WindowSaid;
-use crate::signs::{close_at, jump_at, open_at, walk_at};
-use crate::types::{bridge_class, slots_of};
+use crate::signs::{close_at, jump_at, open_at};
+use crate::types::bridge_class;
 use rg_base::{Cap, Ty};
 use rg_raise::{
     After, Fronts, KindSaid, RightSaid, Source, Stretch, array_row, behind_uses, element_written,
-    longer_path, made_behind, object_by, raise_fronts, slot_type, take_first, taken,
+    longer_path, made_behind, object_by, raise_fronts, slot_type, take_first, taken, walk_at,
 };
 use rg_tree::{Program, Right, Span, StmtKind};
 use rg_verify::{Close, FrontRow, Open, Refusal, Walk, path_row};
@@ -48,7 +49,7 @@ fn otherwise_told(
     ensures grows { Extends program.old program.new }
     ensures types { IfOk result (λ x. types.new.items ≡ types.old.items) }
 {
-    let slots = slots_of(types);
+    let slots = types.len();
     let (no, behind) = raise_inner(source, program, types, depth, at)?;
     let Some(end) = behind_end(source.module.code(), line, slots, behind) else {
         return Err(Refusal::NotRaised);
@@ -91,15 +92,16 @@ fn jumped(
     let Some(to) = jump_at(source.module.code(), at) else {
         return Err(Refusal::NotRaised);
     };
-    if fails != at + 1 {
+    let behind = at + 1;
+    if fails != behind {
         return Err(Refusal::NotRaised);
     }
     if to == start {
         let row = StmtKind::While { test, body: yes };
         let after = After::Same;
-        return Ok((KindSaid { row, after }, at + 1));
+        return Ok((KindSaid { row, after }, behind));
     }
-    otherwise_told(source, program, types, depth, line, test, yes, to, at + 1)
+    otherwise_told(source, program, types, depth, line, test, yes, to, behind)
 }
 
 // An `if` or a loop, behind the jump over its block.
@@ -122,7 +124,7 @@ fn tested(
     ensures grows { Extends program.old program.new }
     ensures types { IfOk result (λ x. types.new.items ≡ types.old.items) }
 {
-    let slots = slots_of(types);
+    let slots = types.len();
     let (yes, behind) = raise_inner(source, program, types, depth, at)?;
     let Some(end) = behind_end(source.module.code(), line, slots, behind) else {
         return Err(Refusal::NotRaised);
@@ -201,7 +203,7 @@ fn window(
     ensures types { IfOk result (λ x. types.new.items ≡ types.old.items) }
     ensures next { IfOk result (λ x. bridge ≡ length types.old.items) }
 {
-    let slots = slots_of(types);
+    let slots = types.len();
     if bridge as usize != slots {
         return Err(Refusal::NotRaised);
     }
@@ -260,6 +262,25 @@ fn field_entered(
     Ok((kind, end))
 }
 
+// A new array of so many elements goes into a slot.
+fn array_taken(
+    source: &Source<'_>,
+    program: &mut Program,
+    types: &Vec<Ty>,
+    walk: Walk,
+    row: u32,
+    at: usize,
+) -> Result<(KindSaid, usize), Refusal>
+    requires next { at + 1 < 2 ^ 64 }
+    ensures told { (e : Raised) → IsTree program.old row (named source.now.body.in_method e) →
+        MakesAs (IsKindSaid source.now.body.in_method (length types.now.items)) program.old
+        program.new (array_told (given source.now) types.now.items e at walk) result }
+    ensures grows { Extends program.old program.new }
+{
+    let right = array_row(source.body, program, walk, row)?;
+    taken(source, program, types, right, at + 1)
+}
+
 // A statement that begins with an expression, by what stands behind that.
 #[cycle(block)]
 fn expr_by(
@@ -294,8 +315,54 @@ fn expr_by(
             source, program, types, depth, line, start, row, index, bridge, end,
         );
     }
-    let right = array_row(source.body, program, walk, row)?;
-    taken(source, program, types, right, end + 1)
+    array_taken(source, program, types, walk, row, end)
+}
+
+// A variable is entered.
+#[cycle(block)]
+fn slot_entered(
+    source: &Source<'_>,
+    program: &mut Program,
+    types: &mut Vec<Ty>,
+    depth: usize,
+    line: u64,
+    slot: u32,
+    bridge: u32,
+    at: usize,
+) -> Result<(KindSaid, usize), Refusal>
+    requires next { at + 1 < 2 ^ 64 }
+    ensures told { let g = given source.now in
+        MakesAs (IsKindSaid source.now.body.in_method (length types.old.items)) program.old
+        program.new
+        (blocks.open_by g (block_told g depth) types.old.items line at
+        (Some (opens.Enter slot bridge))) result }
+    ensures grows { Extends program.old program.new }
+    ensures types { IfOk result (λ x. types.new.items ≡ types.old.items) }
+{
+    let (inside, end) = window(source, program, types, depth, line, bridge, at + 1)?;
+    let Ok(path) = path_row(source.body, program, slot, &[]) else {
+        return Err(Refusal::Memory);
+    };
+    let Ok(kind) = entered(source.body, program, path, bridge, inside) else {
+        return Err(Refusal::Memory);
+    };
+    Ok((kind, end))
+}
+
+// A right side of one instruction goes into a slot.
+fn made_taken(
+    source: &Source<'_>,
+    program: &mut Program,
+    types: &Vec<Ty>,
+    at: usize,
+) -> Result<(KindSaid, usize), Refusal>
+    ensures told { (inner : Inner) (line : ℕ) →
+        MakesAs (IsKindSaid source.now.body.in_method (length types.now.items)) program.old
+        program.new (blocks.open_by (given source.now) inner types.now.items line at None) result }
+    ensures grows { Extends program.old program.new }
+{
+    let (right, behind) = made_behind(source, program, at)?;
+    taken(source, program, types, right, behind)
 }
 
 // A statement with nothing in front, by its first instruction.
@@ -309,31 +376,22 @@ fn open_by(
     at: usize,
 ) -> Result<(KindSaid, usize), Refusal>
     ensures told { let g = given source.now in
-        MakesAs (IsKindSaid source.now.body.in_method (length types.old.items)) program.old program.new
+        MakesAs (IsKindSaid source.now.body.in_method (length types.old.items)) program.old
+        program.new
         (blocks.open_by g (block_told g depth) types.old.items line at (sign open_of g.ops at))
         result }
     ensures grows { Extends program.old program.new }
     ensures types { IfOk result (λ x. types.new.items ≡ types.old.items) }
 {
     match open_at(source.module.code(), at) {
-        None => {
-            let (right, behind) = made_behind(source, program, at)?;
-            taken(source, program, types, right, behind)
-        }
+        None => made_taken(source, program, types, at),
         Some(Open::Collect) => {
             let row = StmtKind::Collect;
             let after = After::Same;
             Ok((KindSaid { row, after }, at + 1))
         }
         Some(Open::Enter { slot, bridge }) => {
-            let (inside, end) = window(source, program, types, depth, line, bridge, at + 1)?;
-            let Ok(path) = path_row(source.body, program, slot, &[]) else {
-                return Err(Refusal::Memory);
-            };
-            let Ok(kind) = entered(source.body, program, path, bridge, inside) else {
-                return Err(Refusal::Memory);
-            };
-            Ok((kind, end))
+            slot_entered(source, program, types, depth, line, slot, bridge, at)
         }
     }
 }
@@ -418,7 +476,7 @@ fn raise_inner(
         return Err(Refusal::NotRaised);
     }
     let inner = depth - 1;
-    let slots = slots_of(types);
+    let slots = types.len();
     let mut numbers = Vec::new(source.body.alloc);
     let mut end = at;
     while let Some(line) = starts_at(source.module.code(), end) {

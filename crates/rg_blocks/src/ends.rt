@@ -4,8 +4,9 @@ ghost use Rattle.std.specs.Prelude.{◌≡◌, ◌+◌, ◌<◌, ◌^◌, IfSome
 ghost use Rattle.rg_verify.specs.Signs.{end_of};
 ghost use Rattle.rg_verify.specs.Blocks.{ended, window_end, starts};
 
-use crate::signs::{closing_at, end_at, leave_at, mark_at};
+use crate::signs::{closing_at, end_at, leave_at};
 use rg_code::CodeList;
+use rg_raise::mark_at;
 
 /// The address behind the end of a block of a statement of a line.
 pub(crate) fn behind_end(code: &CodeList, line: u64, slots: usize, at: usize) -> Option<usize>

@@ -1,35 +1,14 @@
 //! What an instruction at an address is at the beginning and the end of blocks
 //! (docs/architecture.md, "Modules").
 
-ghost use Rattle.std.specs.Prelude.{◌≡◌, ◌+◌, ◌<◌, ◌^◌, slice_get, IfSome};
-ghost use Rattle.rg_verify.specs.Signs.{mark_of, close_of, open_of, walk_of, jump_of, end_of};
+ghost use Rattle.std.specs.Prelude.{◌≡◌, ◌+◌, ◌<◌, ◌^◌, IfSome};
+ghost use Rattle.rg_verify.specs.Signs.{close_of, open_of, jump_of, end_of};
 ghost use Rattle.rg_verify.specs.Signs.{leave_of, closing_of};
 ghost use Rattle.rg_verify.specs.Blocks.{sign};
 
 use rg_code::{CodeList, Op};
-use rg_verify::{Close, Leave, Open, Walk};
-
-// The instruction at an address.
-fn op_at(code: &CodeList, at: usize) -> Option<Op>
-    ensures told { result ≡ slice_get code.now.ops at }
-    ensures next { IfSome result (λ x. at + 1 < 2 ^ 64) }
-{
-    if at < code.len() {
-        return Some(code.get(at));
-    }
-    None
-}
-
-/// At an address, the line of a mark.
-pub(crate) fn mark_at(code: &CodeList, at: usize) -> Option<u64>
-    ensures told { result ≡ sign mark_of code.now.ops at }
-    ensures next { IfSome result (λ x. at + 1 < 2 ^ 64) }
-{
-    let Op::Mark { line } = op_at(code, at)? else {
-        return None;
-    };
-    Some(line)
-}
+use rg_raise::op_at;
+use rg_verify::{Close, Leave, Open};
 
 /// At an address, what stands behind a whole expression.
 pub(crate) fn close_at(code: &CodeList, at: usize) -> Option<Close>
@@ -74,30 +53,6 @@ pub(crate) fn open_at(code: &CodeList, at: usize) -> Option<Open>
         Op::EnterField { .. } | Op::Leave { .. } | Op::End { .. } => None,
         Op::Print | Op::Pop | Op::Drop | Op::Halt => None,
         Op::NewArray { .. } | Op::NewTmpArray { .. } | Op::NewIsoArray { .. } => None,
-        Op::Size | Op::Bound | Op::Element | Op::PutElement | Op::LeaveGiving { .. } => None,
-    }
-}
-
-/// At an address, what stands behind an expression that isn't a value as a whole.
-pub(crate) fn walk_at(code: &CodeList, at: usize) -> Option<Walk>
-    ensures told { result ≡ sign walk_of code.now.ops at }
-    ensures next { IfSome result (λ x. at + 1 < 2 ^ 64) }
-{
-    match op_at(code, at)? {
-        Op::EnterField { index, bridge } => Some(Walk::Enter { index, bridge }),
-        Op::NewArray { class } => Some(Walk::New { class }),
-        Op::NewTmpArray { class } => Some(Walk::NewTmp { class }),
-        Op::NewIsoArray { class, manager } => Some(Walk::NewIso { class, manager }),
-        Op::Mark { .. } | Op::Int { .. } | Op::Bool { .. } | Op::Nil | Op::Load { .. } => None,
-        Op::Clear { .. } | Op::Store { .. } | Op::Own { .. } | Op::Field { .. } | Op::IsNil => None,
-        Op::Neg | Op::Add | Op::Sub | Op::Mul | Op::Div | Op::Rem | Op::Eq | Op::Ne => None,
-        Op::Lt | Op::Le | Op::Gt | Op::Ge | Op::Not => None,
-        Op::Jump { .. } | Op::JumpFalse { .. } | Op::And { .. } | Op::Or { .. } | Op::Check => None,
-        Op::New { .. } | Op::NewTmp { .. } | Op::NewIso { .. } | Op::Pace => None,
-        Op::Put { .. } | Op::Swap { .. } | Op::Freeze { .. } | Op::Merge { .. } => None,
-        Op::Read | Op::More | Op::Room | Op::Call { .. } | Op::Ret | Op::RetVoid => None,
-        Op::Enter { .. } | Op::Leave { .. } | Op::End { .. } => None,
-        Op::Print | Op::Collect | Op::Pop | Op::Drop | Op::Halt => None,
         Op::Size | Op::Bound | Op::Element | Op::PutElement | Op::LeaveGiving { .. } => None,
     }
 }

@@ -1,6 +1,6 @@
 //! Variables and bridges (docs/architecture.md, "Modules").
 
-ghost use Rattle.std.specs.Prelude.{◌≡◌, length};
+ghost use Rattle.std.specs.Prelude.{◌≡◌};
 ghost use Rattle.rg_verify.specs.Blocks as blocks;
 
 use rg_base::{Cap, Ty};
@@ -16,11 +16,4 @@ pub(crate) fn bridge_class(ty: Ty) -> Option<u32>
             Cap::Tmp | Cap::Paused | Cap::Imm | Cap::Iso => None,
         },
     }
-}
-
-/// The number of variables.
-pub(crate) fn slots_of(types: &Vec<Ty>) -> usize
-    ensures { result ≡ length types.now.items }
-{
-    types.len()
 }

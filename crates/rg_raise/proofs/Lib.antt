@@ -2,7 +2,7 @@
 pub mod Rows
 mod Using
 mod Used
-mod FrontRows
+pub mod FrontRows
 pub mod Telling
 pub mod RightSides
 mod KindParts

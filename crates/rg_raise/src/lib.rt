@@ -23,6 +23,7 @@ pub use kinds::{element_written, object_by, taken};
 pub use rights::{array_row, made_behind};
 pub use row_parts::longer_path;
 pub use said::{After, Fronts, KindSaid, RightSaid, Stretch};
+pub use signs::{mark_at, op_at, walk_at};
 pub use source::Source;
 pub use types::slot_type;
 pub use uses::behind_uses;

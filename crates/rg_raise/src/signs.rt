@@ -9,8 +9,8 @@ ghost use Rattle.rg_verify.specs.Blocks.{sign};
 use rg_code::{CodeList, Op};
 use rg_verify::{Behind, Making, Target, Walk};
 
-// The instruction at an address.
-fn op_at(code: &CodeList, at: usize) -> Option<Op>
+/// The instruction at an address, where there is one.
+pub fn op_at(code: &CodeList, at: usize) -> Option<Op>
     ensures told { result ≡ slice_get code.now.ops at }
     ensures next { IfSome result (λ x. at + 1 < 2 ^ 64) }
 {
@@ -72,7 +72,7 @@ pub(crate) fn target_at(code: &CodeList, at: usize) -> Option<Target>
 }
 
 /// At an address, what stands behind an expression that isn't a value as a whole.
-pub(crate) fn walk_at(code: &CodeList, at: usize) -> Option<Walk>
+pub fn walk_at(code: &CodeList, at: usize) -> Option<Walk>
     ensures told { result ≡ sign walk_of code.now.ops at }
     ensures next { IfSome result (λ x. at + 1 < 2 ^ 64) }
 {
@@ -119,7 +119,7 @@ pub(crate) fn behind_at(code: &CodeList, at: usize) -> Option<Behind>
 }
 
 /// At an address, the line of a mark.
-pub(crate) fn mark_at(code: &CodeList, at: usize) -> Option<u64>
+pub fn mark_at(code: &CodeList, at: usize) -> Option<u64>
     ensures told { result ≡ sign mark_of code.now.ops at }
     ensures next { IfSome result (λ x. at + 1 < 2 ^ 64) }
 {

@@ -17,12 +17,15 @@ use Rattle.rg_verify.specs.Signs.{open_of, walk_of}
 use Rattle.rg_verify.specs.Blocks.{Told, sign, window, path_in, fronts_at, close_by, expr_by, open_by, kind_by, kind_told, block_told}
 use Rattle.rg_raise.specs.Telling.{given, MakesAs, IsKindSaid}
 use Rattle.rg_raise.proofs.Rows.{means-one, names-none}
-use Rattle.rg_tree.proofs.Adding.{means-later}
+use Rattle.rg_tree.proofs.Adding.{extends-trans, means-later}
 use Rattle.rg_raise.proofs.Telling.{makes-behind, makes-some}
 use Rattle.rg_blocks.specs.Blocks.{IsBlockSaid, IsWindowSaid}
 use Rattle.rg_blocks.proofs.Put.{finds-path, finds-no-path}
 use Rattle.rg_blocks.proofs.Going.{Looping, looping-begins}
-use Rattle.rg_blocks.proofs.BlockParts.{kind-as, kind-unread, kind-many, block-none}
+use Rattle.rg_blocks.proofs.BlockParts.{jumped-astray, window-astray, window-untyped, window-classless, window-open, kind-as, kind-unread, kind-many, block-none}
+use Rattle.rg_blocks.proofs.Exprs.{astray, jumped-made, jumped-goes, close-print, close-return, close-test, expr-uncleared, expr-closed, expr-array}
+use Rattle.rg_blocks.proofs.Exprs.{open-collect}
+use Rattle.rg_blocks.proofs.Firsts.{first-none, first-expression, first-object, first-place}
 use Rattle.rg_blocks.proofs.BlockRows.{otherwise-made, tested-made, tested-goes, window-made, window-closed, open-made, open-closed, field-made, field-closed}
 use Rattle.rg_blocks.proofs.BlockRows.{field-unfound}
 use Rattle.rg_blocks.proofs.Turns.{turn-refused, turn-same, turn-more, turn-last, turn-smaller, block-inner}
@@ -34,20 +37,64 @@ pub otherwise_told-returns-clause-told : goal.otherwise_told-returns-clause-told
 otherwise_told-returns-clause-told b c e k is block =
     let m = c.args.source.now.body.in_method in
     let g = given c.args.source.now in
-    let ends = rw (c.code.ensures, c.slots_of.ensures) at c.in-Some.ensures in
+    let ends = rw (c.code.ensures, c.len-slots.ensures) at c.in-Some.ensures in
+    let same : c.args.to ≡ c.in-Some.end = let z = c.if-to-end.false in grind (arith, nat_tests) in
     otherwise-made m g (block_told g c.args.depth) c.args.types.now.items c.args.line c.args.program.now c.raise_inner.new.program c.args.test e
-    c.args.yes c.in_ok-no.no k c.args.to c.args.at c.in_ok-no.behind c.in-Some.end is block c.in_ok-no.ensures.told (sym ends) c.if-to-end.false
+    c.args.yes c.in_ok-no.no k c.args.to c.args.at c.in_ok-no.behind c.in-Some.end is block c.in_ok-no.ensures.told (sym ends) same
 
 pub tested-returns-then-fails-end-clause-told : goal.tested-returns-then-fails-end-clause-told
 tested-returns-then-fails-end-clause-told b c e is =
     let m = c.args.source.now.body.in_method in
     let g = given c.args.source.now in
-    let ends = rw (c.code.ensures, c.slots_of.ensures) at c.in-Some.ensures in
+    let ends = rw (c.code.ensures, c.len-slots.ensures) at c.in-Some.ensures in
     tested-made m g (block_told g c.args.depth) c.args.types.now.items c.args.line c.args.start c.args.program.now c.raise_inner.new.program c.args.test e
     c.in_ok-yes.yes c.args.fails c.args.at c.in_ok-yes.behind c.in-Some.end is c.in_ok-yes.ensures.told (sym ends) c.if-fails-end.true
 
 pub tested-returns-clause-told : goal.tested-returns-clause-told
-tested-returns-clause-told b c e is = ?
+tested-returns-clause-told b c e is =
+    let t = c.args.program.now in
+    let m = c.args.source.now.body.in_method in
+    let g = given c.args.source.now in
+    let ends = rw (c.code.ensures, c.len-slots.ensures) at c.in-Some.ensures in
+    let goes = rw c.in_ok-yes.ensures.types at c.jumped.ensures.told in
+    tested-goes m g (block_told g c.args.depth) c.args.types.now.items c.args.line c.args.start t c.raise_inner.new.program c.args.test e
+    c.in_ok-yes.yes c.args.fails c.args.at c.in_ok-yes.behind c.in-Some.end is c.in_ok-yes.ensures.told (sym ends) c.jumped.new.program c.jumped.result
+    (astray c.args.fails c.in-Some.end (λ z. let other = c.if-fails-end.false in grind (arith, nat_tests))) (goes e)
+
+pub tested-returns-clause-types : goal.tested-returns-clause-types
+tested-returns-clause-types b c = rw c.in_ok-yes.ensures.types at c.jumped.ensures.types
+
+pub tested-returns-clause-grows : goal.tested-returns-clause-grows
+tested-returns-clause-grows b c = extends-trans c.in_ok-yes.ensures.grows c.jumped.ensures.grows
+
+pub jumped-returns-then-fails-behind-clause-told : goal.jumped-returns-then-fails-behind-clause-told
+jumped-returns-then-fails-behind-clause-told b c e k is block =
+    let g = given c.args.source.now in
+    let jump = rw c.code.ensures at c.in-Some.ensures.told in
+    jumped-astray g (block_told g c.args.depth) c.args.types.now.items c.args.line c.args.start e k c.args.fails c.args.at c.in-Some.to (sym jump)
+    (astray c.args.fails (suc c.args.at) (λ z. let other = c.if-fails-behind.true in grind (arith, nat_tests)))
+
+pub jumped-returns-then-to-start-clause-told : goal.jumped-returns-then-to-start-clause-told
+jumped-returns-then-to-start-clause-told b c e k is block =
+    let m = c.args.source.now.body.in_method in
+    let g = given c.args.source.now in
+    let jump = rw c.code.ensures at c.in-Some.ensures.told in
+    let falls : c.args.fails ≡ c.args.at + 1 = let z = c.if-fails-behind.false in grind (arith, nat_tests) in
+    let back : c.in-Some.to ≡ c.args.start = let z = c.if-to-start.true in grind (arith, nat_tests) in
+    jumped-made m g (block_told g c.args.depth) c.args.types.now.items c.args.line c.args.start c.args.program.now c.args.test e c.args.yes k
+    c.args.fails c.args.at c.in-Some.to (sym jump) falls is block back
+
+pub jumped-returns-clause-told : goal.jumped-returns-clause-told
+jumped-returns-clause-told b c e k is block =
+    let m = c.args.source.now.body.in_method in
+    let g = given c.args.source.now in
+    let jump = rw c.code.ensures at c.in-Some.ensures.told in
+    let falls : c.args.fails ≡ c.args.at + 1 = let z = c.if-fails-behind.false in grind (arith, nat_tests) in
+    jumped-goes m g (block_told g c.args.depth) c.args.types.now.items c.args.line c.args.start c.args.program.now c.args.test e c.args.yes k
+    c.args.fails c.args.at c.in-Some.to (sym jump) falls c.otherwise_told.new.program c.otherwise_told.result
+    (λ z. let other = c.if-to-start.false in grind (arith, nat_tests)) (c.otherwise_told.ensures.told e k is block)
+
+-- by what stands behind a whole expression
 
 pub close_by-returns-in-None-clause-told : goal.close_by-returns-in-None-clause-told
 close_by-returns-in-None-clause-told b c e is =
@@ -61,25 +108,69 @@ close_by-returns-in-None-clause-told b c e is =
     (c.taken.ensures.told (value e)
     (means-one {at = right_of} {exists = IsRightIn} right_row.Expr tree.value (λ w x. refl) (λ w x i. i) is, refl))
 
+pub close_by-returns-in-Some-Print-clause-told : goal.close_by-returns-in-Some-Print-clause-told
+close_by-returns-in-Some-Print-clause-told b c e is =
+    let g = given c.args.source.now in
+    let told = rw c.code.ensures at c.in-Some-Print.ensures.told in
+    close-print c.args.source.now.body.in_method g (block_told g c.args.depth) c.args.types.now.items c.args.line c.args.start e c.args.at
+    c.args.program.now c.args.test is (sym (ap Some (sym c.in-Some-Print.field-0-is) ∙ told))
+
+pub close_by-returns-in-Some-Return-clause-told : goal.close_by-returns-in-Some-Return-clause-told
+close_by-returns-in-Some-Return-clause-told b c e is =
+    let g = given c.args.source.now in
+    let told = rw c.code.ensures at c.in-Some-Return.ensures.told in
+    close-return c.args.source.now.body.in_method g (block_told g c.args.depth) c.args.types.now.items c.args.line c.args.start e c.args.at
+    c.args.program.now c.args.test is (sym (ap Some (sym c.in-Some-Return.field-0-is) ∙ told))
+
+pub close_by-returns-in-Some-Test-clause-told : goal.close_by-returns-in-Some-Test-clause-told
+close_by-returns-in-Some-Test-clause-told b c e is =
+    let g = given c.args.source.now in
+    let told = rw c.code.ensures at c.in-Some-Test.ensures.told in
+    close-test c.args.source.now.body.in_method g (block_told g c.args.depth) c.args.types.now.items c.args.line c.args.start e c.args.at
+    c.args.program.now c.in-Some-Test.to c.tested.new.program c.tested.result (sym (ap Some (sym c.in-Some-Test.field-0-is) ∙ told))
+    (c.tested.ensures.told e is)
+
 -- windows
+
+pub window-returns-then-bridge-slots-clause-told : goal.window-returns-then-bridge-slots-clause-told
+window-returns-then-bridge-slots-clause-told b c =
+    let g = given c.args.source.now in
+    window-astray g (block_told g c.args.depth) c.args.types.now.items c.args.line c.args.bridge c.args.at
+    (astray c.args.bridge (length c.args.types.now.items) (λ z. let other = c.if-bridge-slots.true in let n = c.len-slots.ensures in grind (arith, nat_tests)))
+
+pub window-returns-in_default-clause-told : goal.window-returns-in_default-clause-told
+window-returns-in_default-clause-told b c =
+    let g = given c.args.source.now in
+    let next : c.args.bridge ≡ length c.args.types.now.items = let z = c.if-bridge-slots.false in let n = c.len-slots.ensures in grind (arith, nat_tests) in
+    window-untyped g (block_told g c.args.depth) c.args.types.now.items c.args.line c.args.bridge c.args.at next (sym c.in_default.ensures)
+
+pub window-returns-in_default-bridge_class-clause-told : goal.window-returns-in_default-bridge_class-clause-told
+window-returns-in_default-bridge_class-clause-told b c =
+    let g = given c.args.source.now in
+    let next : c.args.bridge ≡ length c.args.types.now.items = let z = c.if-bridge-slots.false in let n = c.len-slots.ensures in grind (arith, nat_tests) in
+    window-classless g (block_told g c.args.depth) c.args.types.now.items c.args.line c.args.bridge c.args.at next c.in-Some.ty (sym c.in-Some.ensures)
+    (sym c.in_default-bridge_class.ensures)
 
 pub window-returns-in_err-block-clause-told : goal.window-returns-in_err-block-clause-told
 window-returns-in_err-block-clause-told b c =
     let p = err_from_is_err_and c.from_residual.result c.from_residual.ensures.1 in
     let g = given c.args.source.now in
-    let next = sym (c.if-bridge-slots.false ∙ c.slots_of.ensures) in
-    rw (p.1, p.2) (window-closed c.args.source.now.body.in_method g (block_told g c.args.depth) c.args.types.now.items c.args.line c.args.bridge c.args.at (sym next)
+    let next : c.args.bridge ≡ length c.args.types.now.items = let z = c.if-bridge-slots.false in let n = c.len-slots.ensures in grind (arith, nat_tests) in
+    let made = rw c.in-Ok.ensures.items at c.in_err-block.ensures.told in
+    rw (p.1, p.2) (window-closed c.args.source.now.body.in_method g (block_told g c.args.depth) c.args.types.now.items c.args.line c.args.bridge c.args.at next
     c.in-Some.ty (sym c.in-Some.ensures) c.in-Some-bridge_class.class (sym c.in-Some-bridge_class.ensures) c.args.program.now
-    c.raise_inner.new.program c.in_err-block.field-0.0 c.in_err-block.ensures.told)
+    c.raise_inner.new.program c.in_err-block.field-0.0 made)
 
 pub window-returns-clause-told : goal.window-returns-clause-told
 window-returns-clause-told b c =
     let g = given c.args.source.now in
-    let ends = rw (c.code.ensures, c.slots_of.ensures) at c.in-Some-behind_leave.ensures in
+    let ends = rw (c.code.ensures, c.len-slots.ensures) at c.in-Some-behind_leave.ensures in
+    let next : c.args.bridge ≡ length c.args.types.now.items = let z = c.if-bridge-slots.false in let n = c.len-slots.ensures in grind (arith, nat_tests) in
+    let made = rw c.in-Ok.ensures.items at c.in_ok-block.ensures.told in
     window-made c.args.source.now.body.in_method g (block_told g c.args.depth) c.args.types.now.items c.args.line c.args.bridge c.args.at
-    (c.if-bridge-slots.false ∙ c.slots_of.ensures) c.in-Some.ty (sym c.in-Some.ensures) c.in-Some-bridge_class.class (sym c.in-Some-bridge_class.ensures)
+    next c.in-Some.ty (sym c.in-Some.ensures) c.in-Some-bridge_class.class (sym c.in-Some-bridge_class.ensures)
     c.args.program.now c.raise_inner.new.program c.in_ok-block.block c.in_ok-block.behind c.in-Some-behind_leave.given c.in-Some-behind_leave.end
-    c.in_ok-block.ensures.told (sym ends)
+    made (sym ends)
 
 -- the window of a field
 
@@ -141,3 +232,21 @@ raise_inner-loop-line-init b c =
     let inner = block_told g (c.args.depth - 1) in
     subst (λ (ns : List ℕ). Looping c.args.source.now.body.in_method g inner t t types types ns c.args.at c.args.at) (sym c.new-numbers.ensures.items)
     (looping-begins c.args.source.now.body.in_method g inner t types c.args.at)
+
+-- what begins with an expression
+
+pub expr_by-returns-in_default-clause-told : goal.expr_by-returns-in_default-clause-told
+expr_by-returns-in_default-clause-told b c e is spans = ?
+
+pub expr_by-returns-clause-told : goal.expr_by-returns-clause-told
+expr_by-returns-clause-told b c e is spans = ?
+
+-- what begins with nothing
+
+pub open_by-returns-in-Some-Collect-clause-told : goal.open_by-returns-in-Some-Collect-clause-told
+open_by-returns-in-Some-Collect-clause-told b c = ?
+
+-- by the first of what it begins with
+
+pub kind_by-returns-in-None-clause-told : goal.kind_by-returns-in-None-clause-told
+kind_by-returns-in-None-clause-told b c fs is = ?
