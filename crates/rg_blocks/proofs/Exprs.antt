@@ -106,17 +106,12 @@ module _ (m : Truth) (g : Given) (inner : Inner) (types : List Ty) (line : ℕ) 
 
   -- by what stands behind an expression
   module _ (start : ℕ) (e : Raised) (at : ℕ) where
-    module _ (none : sign walk_of g.ops at ≡ None) where
-      expr-by : expr_by g inner types line start e at (sign walk_of g.ops at)
-          ≡ ◌>>=◌ (cleared g.ops (all_used types (e ∷ [])) at) (λ behind. close_by g inner types line start e behind (sign close_of g.ops behind))
-      expr-by = ap (expr_by g inner types line start e at) none
+    pub expr-uncleared : cleared g.ops (all_used types (e ∷ [])) at ≡ None → expr_by g inner types line start e at None ≡ None
+    expr-uncleared h = bind-none (cleared g.ops (all_used types (e ∷ [])) at) _ h
 
-      pub expr-uncleared : cleared g.ops (all_used types (e ∷ [])) at ≡ None → expr_by g inner types line start e at (sign walk_of g.ops at) ≡ None
-      expr-uncleared h = expr-by ∙ bind-none (cleared g.ops (all_used types (e ∷ [])) at) _ h
-
-      pub expr-closed : (behind : ℕ) → cleared g.ops (all_used types (e ∷ [])) at ≡ Some behind
-          → expr_by g inner types line start e at (sign walk_of g.ops at) ≡ close_by g inner types line start e behind (sign close_of g.ops behind)
-      expr-closed behind h = expr-by ∙ bind-is (cleared g.ops (all_used types (e ∷ [])) at) _ behind h
+    pub expr-closed : (behind : ℕ) → cleared g.ops (all_used types (e ∷ [])) at ≡ Some behind
+        → expr_by g inner types line start e at None ≡ close_by g inner types line start e behind (sign close_of g.ops behind)
+    expr-closed behind h = bind-is (cleared g.ops (all_used types (e ∷ [])) at) _ behind h
 
     by-array : (w : Walk) → ((k z : ℕ) → w ≡ walk.Enter k z → ⊥)
         → expr_by g inner types line start e at (Some w) ≡ array_told g types e at w

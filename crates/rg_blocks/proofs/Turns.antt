@@ -1,6 +1,7 @@
 -- The turns of a loop over the statements of a block.
 use Rattle.std.proofs.Common.{◌≡◌, ℕ, zero, suc, ◌+◌, ◌-◌, ◌<◌, ◌≤◌, Bool as Truth, true, false, List, [], ◌∷◌, ◌++◌, drop, take, length, slice_get}
-use Rattle.std.proofs.Common.{Option, Some, None, Ok, Err, refl, sym, ap, ◌∙◌, subst, append_assoc, arith}
+use Rattle.std.proofs.Common.{Option, Some, None, Result, Ok, Err, refl, sym, ap, ◌∙◌, subst, append_assoc, arith}
+use Rattle.std.proofs.Math.Seq.{take-append_seam}
 use Rattle.std.proofs.lemmas.List.{length-append, length-drop}
 use Rattle.std.proofs.lemmas.Option.{slice_get_within}
 use Rattle.rg_base.specs.declared.ty.Ty.{Ty}
@@ -82,6 +83,17 @@ pub block-inner : (g : Given) (depth inner : ℕ) (types : List Ty) (at : ℕ) �
     → block_told g depth types at ≡ statements g (block_told g inner) (suc (length g.ops)) types at
 unfolding block_told
 block-inner g depth inner types at e = ap (λ (d : ℕ). block_told g d types at) e
+
+-- so what was made of its statements is made of it
+pub block-so : (g : Given) (depth inner : ℕ) (types : List Ty) (at : ℕ) → depth ≡ suc inner → (m : Truth) (slots : ℕ) (old new : Tables)
+    (r : Result (Span × ℕ) Refusal) → MakesAs (IsBlockSaid m slots) old new (statements g (block_told g inner) (suc (length g.ops)) types at) r
+    → MakesAs (IsBlockSaid m slots) old new (block_told g depth types at) r
+block-so g depth inner types at e m slots old new r made =
+    subst (λ (o : Told Block). MakesAs (IsBlockSaid m slots) old new o r) (sym (block-inner g depth inner types at e)) made
+
+-- the types in front of a block are there again
+pub shortened : (before more types : List Ty) → types ≡ before ++ more → take (length before) types ≡ before
+shortened before more types e = ap (take (length before)) e ∙ take-append_seam before more
 
 module _ (m : Truth) (g : Given) (depth : ℕ) (old t : Tables) (before types : List Ty) (numbers : List ℕ) (at end line : ℕ)
     (l : Looping m g (block_told g depth) old t before types numbers at end) (begins : starts g.ops end ≡ Some line) where

@@ -281,6 +281,33 @@ fn array_taken(
     taken(source, program, types, right, at + 1)
 }
 
+// A statement that begins with a whole expression, behind which what it uses up is cleared.
+#[cycle(block)]
+fn whole(
+    source: &Source<'_>,
+    program: &mut Program,
+    types: &mut Vec<Ty>,
+    depth: usize,
+    line: u64,
+    start: usize,
+    test: u32,
+    code: Stretch,
+) -> Result<(KindSaid, usize), Refusal>
+    ensures told { (e : Raised) → IsTree program.old test (named source.now.body.in_method e) →
+        Spans source.now.module.now.code.ops code (expression e ∷ []) →
+        let g = given source.now in
+        MakesAs (IsKindSaid source.now.body.in_method (length types.old.items)) program.old
+        program.new
+        (blocks.expr_by g (block_told g depth) types.old.items line start e code.end None) result }
+    ensures grows { Extends program.old program.new }
+    ensures types { IfOk result (λ x. types.new.items ≡ types.old.items) }
+{
+    let Some(behind) = behind_uses(source.module.code(), types, code, code.end) else {
+        return Err(Refusal::NotRaised);
+    };
+    close_by(source, program, types, depth, line, start, test, behind)
+}
+
 // A statement that begins with an expression, by what stands behind that.
 #[cycle(block)]
 fn expr_by(
@@ -297,25 +324,22 @@ fn expr_by(
     ensures told { (e : Raised) → IsTree program.old row (named source.now.body.in_method e) →
         Spans source.now.module.now.code.ops code (expression e ∷ []) →
         let g = given source.now in
-        MakesAs (IsKindSaid source.now.body.in_method (length types.old.items)) program.old program.new
+        MakesAs (IsKindSaid source.now.body.in_method (length types.old.items)) program.old
+        program.new
         (blocks.expr_by g (block_told g depth) types.old.items line start e code.end
         (sign walk_of g.ops code.end)) result }
     ensures grows { Extends program.old program.new }
     ensures types { IfOk result (λ x. types.new.items ≡ types.old.items) }
 {
-    let end = code.end;
-    let Some(walk) = walk_at(source.module.code(), end) else {
-        let Some(behind) = behind_uses(source.module.code(), types, code, end) else {
-            return Err(Refusal::NotRaised);
-        };
-        return close_by(source, program, types, depth, line, start, row, behind);
+    let Some(walk) = walk_at(source.module.code(), code.end) else {
+        return whole(source, program, types, depth, line, start, row, code);
     };
     if let Walk::Enter { index, bridge } = walk {
         return field_entered(
-            source, program, types, depth, line, start, row, index, bridge, end,
+            source, program, types, depth, line, start, row, index, bridge, code.end,
         );
     }
-    array_taken(source, program, types, walk, row, end)
+    array_taken(source, program, types, walk, row, code.end)
 }
 
 // A variable is entered.

@@ -233,20 +233,226 @@ raise_inner-loop-line-init b c =
     subst (λ (ns : List ℕ). Looping c.args.source.now.body.in_method g inner t t types types ns c.args.at c.args.at) (sym c.new-numbers.ensures.items)
     (looping-begins c.args.source.now.body.in_method g inner t types c.args.at)
 
+-- the window of a variable
+
+pub slot_entered-returns-in_err-inside-clause-told : goal.slot_entered-returns-in_err-inside-clause-told
+slot_entered-returns-in_err-inside-clause-told b c =
+    let p = err_from_is_err_and c.from_residual.result c.from_residual.ensures.1 in
+    rw (p.1, p.2) (open-closed c.args.source.now.body.in_method (given c.args.source.now) (block_told (given c.args.source.now) c.args.depth)
+    c.args.types.now.items c.args.line c.args.slot c.args.bridge c.args.at c.args.program.now c.window.new.program c.in_err-inside.field-0.0
+    c.in_err-inside.ensures.told)
+
+pub slot_entered-returns-clause-told : goal.slot_entered-returns-clause-told
+slot_entered-returns-clause-told b c =
+    open-made c.args.source.now.body.in_method (given c.args.source.now) (block_told (given c.args.source.now) c.args.depth)
+    c.args.types.now.items c.args.line c.args.slot c.args.bridge c.args.at c.args.program.now c.window.new.program c.path_row.new.program
+    c.entered.new.program c.in_ok-inside.inside c.in_ok-inside.end c.in-Ok.path c.in-Ok-entered.kind c.in_ok-inside.ensures.told
+    c.in_ok-inside.ensures.next (c.in-Ok.ensures.adds [] (names-none c.window.new.program)) c.in-Ok-entered.ensures.enters
+
+pub slot_entered-returns-in_default-clause-grows : goal.slot_entered-returns-in_default-clause-grows
+slot_entered-returns-in_default-clause-grows b c = extends-trans c.in_ok-inside.ensures.grows c.in_default.ensures.grows
+
+pub slot_entered-returns-in_default-entered-clause-grows : goal.slot_entered-returns-in_default-entered-clause-grows
+slot_entered-returns-in_default-entered-clause-grows b c =
+    extends-trans c.in_ok-inside.ensures.grows (extends-trans c.in-Ok.ensures.grows c.in_default-entered.ensures.grows)
+
+pub slot_entered-returns-clause-grows : goal.slot_entered-returns-clause-grows
+slot_entered-returns-clause-grows b c =
+    extends-trans c.in_ok-inside.ensures.grows (extends-trans c.in-Ok.ensures.grows c.in-Ok-entered.ensures.grows)
+
+pub field_entered-returns-in_default-longer_path-clause-grows : goal.field_entered-returns-in_default-longer_path-clause-grows
+field_entered-returns-in_default-longer_path-clause-grows b c = extends-trans c.in_ok-inside.ensures.grows c.in_default-longer_path.ensures.grows
+
+pub field_entered-returns-in_default-entered-clause-grows : goal.field_entered-returns-in_default-entered-clause-grows
+field_entered-returns-in_default-entered-clause-grows b c =
+    extends-trans c.in_ok-inside.ensures.grows (extends-trans c.in-Ok.ensures.grows c.in_default-entered.ensures.grows)
+
+pub field_entered-returns-clause-grows : goal.field_entered-returns-clause-grows
+field_entered-returns-clause-grows b c =
+    extends-trans c.in_ok-inside.ensures.grows (extends-trans c.in-Ok.ensures.grows c.in-Ok-entered.ensures.grows)
+
 -- what begins with an expression
 
+pub whole-returns-in_default-clause-told : goal.whole-returns-in_default-clause-told
+whole-returns-in_default-clause-told b c e is spans =
+    let g = given c.args.source.now in
+    let types = c.args.types.now.items in
+    let end = c.args.code.end in
+    let clears = rw c.code.ensures at c.in_default.ensures in
+    let same = ap (λ (ss : List ℕ). cleared g.ops ss end) (spans types) in
+    expr-uncleared c.args.source.now.body.in_method g (block_told g c.args.depth) types c.args.line c.args.start e end (sym (clears ∙ same))
+
+pub whole-returns-clause-told : goal.whole-returns-clause-told
+whole-returns-clause-told b c e is spans =
+    let m = c.args.source.now.body.in_method in
+    let g = given c.args.source.now in
+    let types = c.args.types.now.items in
+    let end = c.args.code.end in
+    let clears = rw c.code.ensures at c.in-Some.ensures in
+    let same = ap (λ (ss : List ℕ). cleared g.ops ss end) (spans types) in
+    subst (λ (o : Told Kind). MakesAs (IsKindSaid m (length types)) c.args.program.now c.close_by.new.program o c.close_by.result)
+    (sym (expr-closed m g (block_told g c.args.depth) types c.args.line c.args.start e end c.in-Some.behind (sym (clears ∙ same))))
+    (c.close_by.ensures.told e is)
+
 pub expr_by-returns-in_default-clause-told : goal.expr_by-returns-in_default-clause-told
-expr_by-returns-in_default-clause-told b c e is spans = ?
+expr_by-returns-in_default-clause-told b c e is spans =
+    let m = c.args.source.now.body.in_method in
+    let g = given c.args.source.now in
+    let types = c.args.types.now.items in
+    let told = rw c.code.ensures at c.in_default.ensures.told in
+    subst (λ (w : Option Walk). MakesAs (IsKindSaid m (length types)) c.args.program.now c.whole.new.program
+    (expr_by g (block_told g c.args.depth) types c.args.line c.args.start e c.args.code.end w) c.whole.result) told (c.whole.ensures.told e is spans)
+
+pub expr_by-returns-in-Enter-clause-told : goal.expr_by-returns-in-Enter-clause-told
+expr_by-returns-in-Enter-clause-told b c e is spans =
+    let m = c.args.source.now.body.in_method in
+    let g = given c.args.source.now in
+    let types = c.args.types.now.items in
+    let told = rw c.code.ensures at c.in-Some.ensures.told in
+    subst (λ (w : Option Walk). MakesAs (IsKindSaid m (length types)) c.args.program.now c.field_entered.new.program
+    (expr_by g (block_told g c.args.depth) types c.args.line c.args.start e c.args.code.end w) c.field_entered.result)
+    (ap Some (sym c.in-Enter.is) ∙ told) (c.field_entered.ensures.told e is)
 
 pub expr_by-returns-clause-told : goal.expr_by-returns-clause-told
-expr_by-returns-clause-told b c e is spans = ?
+expr_by-returns-clause-told b c e is spans =
+    let m = c.args.source.now.body.in_method in
+    let g = given c.args.source.now in
+    let types = c.args.types.now.items in
+    let told = rw c.code.ensures at c.in-Some.ensures.told in
+    subst (λ (o : Told Kind). MakesAs (IsKindSaid m (length types)) c.args.program.now c.array_taken.new.program o c.array_taken.result)
+    (sym (expr-array m g (block_told g c.args.depth) types c.args.line c.args.start e c.args.code.end c.in-Some.walk (sym told)
+    c.in_default-walk.not-Enter)) (c.array_taken.ensures.told e is)
 
 -- what begins with nothing
 
+pub open_by-returns-in-None-clause-told : goal.open_by-returns-in-None-clause-told
+open_by-returns-in-None-clause-told b c =
+    let g = given c.args.source.now in
+    let types = c.args.types.now.items in
+    let told = rw c.code.ensures at c.in-None.ensures.told in
+    subst (λ (o : Option Open). MakesAs (IsKindSaid c.args.source.now.body.in_method (length types)) c.args.program.now c.made_taken.new.program
+    (open_by g (block_told g c.args.depth) types c.args.line c.args.at o) c.made_taken.result) told
+    (c.made_taken.ensures.told (block_told g c.args.depth) c.args.line)
+
 pub open_by-returns-in-Some-Collect-clause-told : goal.open_by-returns-in-Some-Collect-clause-told
-open_by-returns-in-Some-Collect-clause-told b c = ?
+open_by-returns-in-Some-Collect-clause-told b c =
+    let g = given c.args.source.now in
+    let told = rw c.code.ensures at c.in-Some-Collect.ensures.told in
+    open-collect c.args.source.now.body.in_method g (block_told g c.args.depth) c.args.types.now.items c.args.line c.args.at c.args.program.now
+    (sym (ap Some (sym c.in-Some-Collect.field-0-is) ∙ told))
+
+pub open_by-returns-in-Some-Enter-clause-told : goal.open_by-returns-in-Some-Enter-clause-told
+open_by-returns-in-Some-Enter-clause-told b c =
+    let g = given c.args.source.now in
+    let types = c.args.types.now.items in
+    let told = rw c.code.ensures at c.in-Some-Enter.ensures.told in
+    subst (λ (o : Option Open). MakesAs (IsKindSaid c.args.source.now.body.in_method (length types)) c.args.program.now c.slot_entered.new.program
+    (open_by g (block_told g c.args.depth) types c.args.line c.args.at o) c.slot_entered.result) (ap Some (sym c.in-Some-Enter.field-0-is) ∙ told)
+    c.slot_entered.ensures.told
 
 -- by the first of what it begins with
 
 pub kind_by-returns-in-None-clause-told : goal.kind_by-returns-in-None-clause-told
-kind_by-returns-in-None-clause-told b c fs is = ?
+kind_by-returns-in-None-clause-told b c fs is =
+    let t = c.args.program.now in
+    let m = c.args.source.now.body.in_method in
+    let g = given c.args.source.now in
+    let types = c.args.types.now.items in
+    let none = first-none t m g.ops c.args.fronts fs (subst (TakesFirst t m g.ops c.args.fronts fs) c.in-None.is is) in
+    subst (λ (ys : List Front). MakesAs (IsKindSaid m (length types)) t c.open_by.new.program
+    (kind_by g (block_told g c.args.depth) types c.args.line c.args.start ys c.args.fronts.code.end) c.open_by.result) (sym none) c.open_by.ensures.told
+
+pub kind_by-returns-then-len-ne0-clause-told : goal.kind_by-returns-then-len-ne0-clause-told
+kind_by-returns-then-len-ne0-clause-told b c fs is =
+    let t = c.args.program.now in
+    let m = c.args.source.now.body.in_method in
+    let g = given c.args.source.now in
+    let types = c.args.types.now.items in
+    let end = c.args.fronts.code.end in
+    let x = first-expression t m g.ops c.args.fronts fs c.in-Some-Expression.row
+    (subst (TakesFirst t m g.ops c.args.fronts fs) c.in-Some-Expression.is is) in
+    ap (λ (ys : List Front). kind_by g (block_told g c.args.depth) types c.args.line c.args.start ys end) x.2.2.0
+    ∙ kind-many g (block_told g c.args.depth) types c.args.line c.args.start x.0 x.2.0 end
+    (some-left t m c.args.fronts.rows.items x.2.0 x.2.2.2.1 (λ z. let other = c.if-len-ne0.true in let n = c.len.ensures in grind (arith, nat_tests)))
+
+pub kind_by-expr_by-requires : goal.kind_by-expr_by-requires
+kind_by-expr_by-requires b c =
+    let t = c.args.program.now in
+    let m = c.args.source.now.body.in_method in
+    let ops = c.args.source.now.module.now.code.ops in
+    let x = first-expression t m ops c.args.fronts c.requires.0 c.in-Some-Expression.row
+    (subst (TakesFirst t m ops c.args.fronts c.requires.0) c.in-Some-Expression.is c.requires.1) in
+    (x.0, x.2.2.1)
+
+pub kind_by-returns-in-Some-Expression-clause-told : goal.kind_by-returns-in-Some-Expression-clause-told
+kind_by-returns-in-Some-Expression-clause-told b c fs is =
+    let t = c.args.program.now in
+    let m = c.args.source.now.body.in_method in
+    let g = given c.args.source.now in
+    let types = c.args.types.now.items in
+    let end = c.args.fronts.code.end in
+    let x = first-expression t m g.ops c.args.fronts fs c.in-Some-Expression.row
+    (subst (TakesFirst t m g.ops c.args.fronts fs) c.in-Some-Expression.is is) in
+    let zero : length c.args.fronts.rows.items ≡ 0 = let z = c.if-len-ne0.false in let n = c.len.ensures in grind (arith, nat_tests) in
+    let none : x.2.0 ≡ [] = none-left t m c.args.fronts.rows.items x.2.0 x.2.2.2.0 zero in
+    let all : fs ≡ expression x.0 ∷ [] = x.2.2.0 ∙ ap (λ (ys : List Front). expression x.0 ∷ ys) none in
+    let spans : Spans g.ops c.args.fronts.code (expression x.0 ∷ []) =
+    subst (λ (ys : List Front). Spans g.ops c.args.fronts.code (expression x.0 ∷ ys)) none x.2.2.2.2 in
+    subst (λ (ys : List Front). MakesAs (IsKindSaid m (length types)) t c.expr_by.new.program
+    (kind_by g (block_told g c.args.depth) types c.args.line c.args.start ys end) c.expr_by.result) (sym all) (c.expr_by.ensures.told x.0 x.2.2.1 spans)
+
+pub kind_by-object_by-requires-clause-path : goal.kind_by-object_by-requires-clause-path
+kind_by-object_by-requires-clause-path b c =
+    let t = c.args.program.now in
+    let m = c.args.source.now.body.in_method in
+    let ops = c.args.source.now.module.now.code.ops in
+    let (s, ks, rest, same, path, left) = first-object t m ops c.args.fronts c.requires.0 c.in-Some-Object.path
+    (subst (TakesFirst t m ops c.args.fronts c.requires.0) c.in-Some-Object.is c.requires.1) in
+    (s, ks, path)
+
+pub kind_by-object_by-requires-clause-left : goal.kind_by-object_by-requires-clause-left
+kind_by-object_by-requires-clause-left b c =
+    let t = c.args.program.now in
+    let m = c.args.source.now.body.in_method in
+    let ops = c.args.source.now.module.now.code.ops in
+    let (s, ks, rest, same, path, left) = first-object t m ops c.args.fronts c.requires.0 c.in-Some-Object.path
+    (subst (TakesFirst t m ops c.args.fronts c.requires.0) c.in-Some-Object.is c.requires.1) in
+    (rest, left)
+
+pub kind_by-returns-in-Some-Object-clause-told : goal.kind_by-returns-in-Some-Object-clause-told
+kind_by-returns-in-Some-Object-clause-told b c fs is =
+    let t = c.args.program.now in
+    let m = c.args.source.now.body.in_method in
+    let g = given c.args.source.now in
+    let types = c.args.types.now.items in
+    let (s, ks, rest, same, path, left) = first-object t m g.ops c.args.fronts fs c.in-Some-Object.path
+    (subst (TakesFirst t m g.ops c.args.fronts fs) c.in-Some-Object.is is) in
+    subst (λ (ys : List Front). MakesAs (IsKindSaid m (length types)) t c.object_by.new.program
+    (kind_by g (block_told g c.args.depth) types c.args.line c.args.start ys c.args.fronts.code.end) c.object_by.result) (sym same)
+    (c.object_by.ensures.told s ks rest path left)
+
+pub kind_by-returns-in-Some-Place-clause-told : goal.kind_by-returns-in-Some-Place-clause-told
+kind_by-returns-in-Some-Place-clause-told b c fs is =
+    let t = c.args.program.now in
+    let m = c.args.source.now.body.in_method in
+    let g = given c.args.source.now in
+    let types = c.args.types.now.items in
+    let (s, ks, e, rest, same, path, tree, left) = first-place t m g.ops c.args.fronts fs c.in-Some-Place.path c.in-Some-Place.index
+    (subst (TakesFirst t m g.ops c.args.fronts fs) c.in-Some-Place.is is) in
+    subst (λ (ys : List Front). MakesAs (IsKindSaid m (length types)) t c.element_written.new.program
+    (kind_by g (block_told g c.args.depth) types c.args.line c.args.start ys c.args.fronts.code.end) c.element_written.result) (sym same)
+    (c.element_written.ensures.told s ks e rest path tree left)
+
+pub kind_told-kind_by-requires : goal.kind_told-kind_by-requires
+kind_told-kind_by-requires b c =
+    let (fs, from, grown, are) = c.in_ok-fronts.ensures.told in
+    (fs, c.take_first-first.ensures.takes c.raise_fronts.new.program c.args.source.now.body.in_method fs are)
+
+pub kind_told-returns-in_err-fronts-clause-told : goal.kind_told-returns-in_err-fronts-clause-told
+kind_told-returns-in_err-fronts-clause-told b c = ?
+
+pub kind_told-returns-clause-told : goal.kind_told-returns-clause-told
+kind_told-returns-clause-told b c = ?
+
+pub kind_told-returns-clause-grows : goal.kind_told-returns-clause-grows
+kind_told-returns-clause-grows b c = extends-trans c.in_ok-fronts.ensures.grows c.kind_by.ensures.grows

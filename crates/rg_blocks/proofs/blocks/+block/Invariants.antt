@@ -20,19 +20,25 @@ abbrev pub decreases-window : goal.decreases-window
 decreases-window l = 16 * l.depth + 3
 
 abbrev pub decreases-expr_by : goal.decreases-expr_by
-decreases-expr_by l = 16 * l.depth + 7
+decreases-expr_by l = 16 * l.depth + 8
+
+abbrev pub decreases-whole : goal.decreases-whole
+decreases-whole l = 16 * l.depth + 7
 
 abbrev pub decreases-field_entered : goal.decreases-field_entered
 decreases-field_entered l = 16 * l.depth + 4
+
+abbrev pub decreases-slot_entered : goal.decreases-slot_entered
+decreases-slot_entered l = 16 * l.depth + 4
 
 abbrev pub decreases-open_by : goal.decreases-open_by
 decreases-open_by l = 16 * l.depth + 7
 
 abbrev pub decreases-kind_told : goal.decreases-kind_told
-decreases-kind_told l = 16 * l.depth + 9
+decreases-kind_told l = 16 * l.depth + 10
 
 abbrev pub decreases-kind_by : goal.decreases-kind_by
-decreases-kind_by l = 16 * l.depth + 8
+decreases-kind_by l = 16 * l.depth + 9
 
 abbrev pub decreases-raise_inner : goal.decreases-raise_inner
 decreases-raise_inner l = 16 * l.depth
