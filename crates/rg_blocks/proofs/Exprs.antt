@@ -10,25 +10,28 @@ use Rattle.rg_tree.specs.Rows.Tables.{Tables}
 use Rattle.rg_tree.specs.Adds.{Extends}
 use Rattle.rg_tree.proofs.Adding.{extends-same}
 use Rattle.rg_verify.specs.declared.refusal.Refusal.{Refusal}
+use Rattle.rg_verify.specs.declared.refusal.Refusal.TheVariants as refusal
 use Rattle.rg_verify.specs.declared.signs.Close.{Close}
 use Rattle.rg_verify.specs.declared.signs.Close.TheVariants as close
 use Rattle.rg_verify.specs.declared.signs.Open.{Open}
 use Rattle.rg_verify.specs.declared.signs.Open.TheVariants as opens
 use Rattle.rg_verify.specs.declared.signs.Walk.{Walk}
 use Rattle.rg_verify.specs.declared.signs.Walk.TheVariants as walk
-use Rattle.rg_verify.specs.Raised.{Raised, named}
+use Rattle.rg_verify.specs.Raised.{Raised, named, Front}
 use Rattle.rg_verify.specs.Rows.{IsTree}
 use Rattle.rg_verify.specs.Statements.{Block, Kind, Right, new, new_tmp, new_iso, while, print, return, collect, all_used}
 use Rattle.rg_verify.specs.Signs.{close_of, open_of, walk_of, jump_of}
 use Rattle.rg_verify.specs.Blocks.{◌>>=◌, Given, Inner, Told, sign, cleared, right_behind, taken, otherwise_told, jumped, tested, close_by}
-use Rattle.rg_verify.specs.Blocks.{expr_by, open_by}
+use Rattle.rg_verify.specs.Blocks.{expr_by, open_by, fronts_at, kind_by, kind_told}
+use Rattle.rg_raise.specs.declared.said.Fronts.{Fronts}
 use Rattle.rg_raise.specs.declared.said.KindSaid.{KindSaid}
 use Rattle.rg_raise.specs.declared.said.RightSaid.{RightSaid}
 use Rattle.rg_raise.specs.declared.said.After.TheVariants as after
+use Rattle.rg_raise.specs.Fronts.{AreFrontsAt, MakesFronts}
 use Rattle.rg_raise.specs.Telling.{array_of, MakesAs, MakesOne, IsRightSaid, IsKindSaid}
 use Rattle.rg_blocks.specs.Blocks.{array_told, IsBlockSaid}
-use Rattle.rg_raise.proofs.Telling.{bind-is, bind-none, makes-some, makes-so, makes-behind, refused, one-some, one-refused}
-use Rattle.rg_blocks.proofs.BlockParts.{jumped-back, jumped-over}
+use Rattle.rg_raise.proofs.Telling.{bind-is, bind-none, makes-none, makes-no-memory, makes-some, makes-so, makes-behind, refused, one-some, one-refused}
+use Rattle.rg_blocks.proofs.BlockParts.{jumped-back, jumped-over, kind-unread, kind-as}
 use Rattle.rg_blocks.proofs.BlockRows.{print-said, return-said, while-said}
 
 -- other numbers aren't equal
@@ -150,3 +153,19 @@ module _ (m : Truth) (g : Given) (inner : Inner) (types : List Ty) (line : ℕ) 
         makes-so (IsKindSaid m (length types)) t t (open_by g inner types line at (sign open_of g.ops at)) _ collect (at + 1) (suc at)
         (ap (open_by g inner types line at) h) one (extends-same t)
         (record { is = λ u k. refl; there = λ u k. tt }, refl)
+
+  -- by what it begins with
+  module _ (at : ℕ) (t u : Tables) where
+    pub kind-refused : (f : Refusal) → MakesFronts t u m g.ops (at + 1) (Err f)
+        → MakesAs (IsKindSaid m (length types)) t u (kind_told g inner types line at) (Err f)
+    kind-refused refusal.Memory h = makes-no-memory (IsKindSaid m (length types)) t u (kind_told g inner types line at)
+    kind-refused refusal.NotRaised h =
+        makes-none (IsKindSaid m (length types)) t u (kind_told g inner types line at) (kind-unread g inner types line at h)
+
+    pub kind-made : (x : Fronts) → MakesFronts t u m g.ops (at + 1) (Ok x) → (v : Tables) (r : Result (KindSaid × ℕ) Refusal)
+        → ((fs : List Front) → AreFrontsAt u m g.ops x fs → MakesAs (IsKindSaid m (length types)) u v (kind_by g inner types line at fs x.code.end) r)
+        → MakesAs (IsKindSaid m (length types)) t v (kind_told g inner types line at) r
+    kind-made x (fs, from, grown, are) v r goes =
+        subst (λ (o : Told Kind). MakesAs (IsKindSaid m (length types)) t v o r)
+        (sym (kind-as g inner types line at fs x.code.end (ap (fronts_at g.ops) (sym from) ∙ are.told)))
+        (makes-behind (IsKindSaid m (length types)) t u v (kind_by g inner types line at fs x.code.end) r grown (goes fs are))

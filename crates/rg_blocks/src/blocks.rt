@@ -51,7 +51,7 @@ fn otherwise_told(
 {
     let slots = types.len();
     let (no, behind) = raise_inner(source, program, types, depth, at)?;
-    let Some(end) = behind_end(source.module.code(), line, slots, behind) else {
+    let Some(end) = behind_end(source.parts.code(), line, slots, behind) else {
         return Err(Refusal::NotRaised);
     };
     if to != end {
@@ -89,7 +89,7 @@ fn jumped(
     ensures grows { Extends program.old program.new }
     ensures types { IfOk result (λ x. types.new.items ≡ types.old.items) }
 {
-    let Some(to) = jump_at(source.module.code(), at) else {
+    let Some(to) = jump_at(source.parts.code(), at) else {
         return Err(Refusal::NotRaised);
     };
     let behind = at + 1;
@@ -126,7 +126,7 @@ fn tested(
 {
     let slots = types.len();
     let (yes, behind) = raise_inner(source, program, types, depth, at)?;
-    let Some(end) = behind_end(source.module.code(), line, slots, behind) else {
+    let Some(end) = behind_end(source.parts.code(), line, slots, behind) else {
         return Err(Refusal::NotRaised);
     };
     if fails == end {
@@ -163,7 +163,7 @@ fn close_by(
     ensures grows { Extends program.old program.new }
     ensures types { IfOk result (λ x. types.new.items ≡ types.old.items) }
 {
-    match close_at(source.module.code(), at) {
+    match close_at(source.parts.code(), at) {
         None => {
             let row = Right::Expr(test);
             let right = RightSaid { row, paces: false };
@@ -207,7 +207,7 @@ fn window(
     if bridge as usize != slots {
         return Err(Refusal::NotRaised);
     }
-    let Some(ty) = slot_type(source.module, at, bridge) else {
+    let Some(ty) = slot_type(source.parts, at, bridge) else {
         return Err(Refusal::NotRaised);
     };
     let Some(class) = bridge_class(ty) else {
@@ -219,7 +219,7 @@ fn window(
     };
     let (block, behind) = raise_inner(source, program, types, depth, at)?;
     types.truncate(slots);
-    let Some((given, end)) = behind_leave(source.module.code(), line, slots, behind) else {
+    let Some((given, end)) = behind_leave(source.parts.code(), line, slots, behind) else {
         return Err(Refusal::NotRaised);
     };
     Ok((WindowSaid { block, given }, end))
@@ -294,7 +294,7 @@ fn whole(
     code: Stretch,
 ) -> Result<(KindSaid, usize), Refusal>
     ensures told { (e : Raised) → IsTree program.old test (named source.now.body.in_method e) →
-        Spans source.now.module.now.code.ops code (expression e ∷ []) →
+        Spans source.now.parts.now.code.ops code (expression e ∷ []) →
         let g = given source.now in
         MakesAs (IsKindSaid source.now.body.in_method (length types.old.items)) program.old
         program.new
@@ -302,7 +302,7 @@ fn whole(
     ensures grows { Extends program.old program.new }
     ensures types { IfOk result (λ x. types.new.items ≡ types.old.items) }
 {
-    let Some(behind) = behind_uses(source.module.code(), types, code, code.end) else {
+    let Some(behind) = behind_uses(source.parts.code(), types, code, code.end) else {
         return Err(Refusal::NotRaised);
     };
     close_by(source, program, types, depth, line, start, test, behind)
@@ -322,7 +322,7 @@ fn expr_by(
 ) -> Result<(KindSaid, usize), Refusal>
     requires { (e : Raised) × IsTree program.old row (named source.now.body.in_method e) }
     ensures told { (e : Raised) → IsTree program.old row (named source.now.body.in_method e) →
-        Spans source.now.module.now.code.ops code (expression e ∷ []) →
+        Spans source.now.parts.now.code.ops code (expression e ∷ []) →
         let g = given source.now in
         MakesAs (IsKindSaid source.now.body.in_method (length types.old.items)) program.old
         program.new
@@ -331,7 +331,7 @@ fn expr_by(
     ensures grows { Extends program.old program.new }
     ensures types { IfOk result (λ x. types.new.items ≡ types.old.items) }
 {
-    let Some(walk) = walk_at(source.module.code(), code.end) else {
+    let Some(walk) = walk_at(source.parts.code(), code.end) else {
         return whole(source, program, types, depth, line, start, row, code);
     };
     if let Walk::Enter { index, bridge } = walk {
@@ -407,7 +407,7 @@ fn open_by(
     ensures grows { Extends program.old program.new }
     ensures types { IfOk result (λ x. types.new.items ≡ types.old.items) }
 {
-    match open_at(source.module.code(), at) {
+    match open_at(source.parts.code(), at) {
         None => made_taken(source, program, types, at),
         Some(Open::Collect) => {
             let row = StmtKind::Collect;
@@ -433,9 +433,9 @@ fn kind_by(
     fronts: Fronts,
 ) -> Result<(KindSaid, usize), Refusal>
     requires { (fs : List OneFront) ×
-        TakesFirst program.old source.now.body.in_method source.now.module.now.code.ops fronts fs first }
+        TakesFirst program.old source.now.body.in_method source.now.parts.now.code.ops fronts fs first }
     ensures told { (fs : List OneFront) →
-        TakesFirst program.old source.now.body.in_method source.now.module.now.code.ops fronts fs first →
+        TakesFirst program.old source.now.body.in_method source.now.parts.now.code.ops fronts fs first →
         let g = given source.now in
         MakesAs (IsKindSaid source.now.body.in_method (length types.old.items)) program.old program.new
         (blocks.kind_by g (block_told g depth) types.old.items line start fs fronts.code.end)
@@ -476,8 +476,8 @@ fn kind_told(
     ensures grows { Extends program.old program.new }
     ensures types { IfOk result (λ x. types.new.items ≡ types.old.items) }
 {
-    let mut fronts = raise_fronts(source.body, program, source.module.code(), at + 1)?;
-    let first = take_first(source.module.code(), &mut fronts);
+    let mut fronts = raise_fronts(source.body, program, source.parts.code(), at + 1)?;
+    let first = take_first(source.parts.code(), &mut fronts);
     kind_by(source, program, types, depth, line, at, first, fronts)
 }
 
@@ -503,7 +503,7 @@ fn raise_inner(
     let slots = types.len();
     let mut numbers = Vec::new(source.body.alloc);
     let mut end = at;
-    while let Some(line) = starts_at(source.module.code(), end) {
+    while let Some(line) = starts_at(source.parts.code(), end) {
         let (kind, behind) = kind_told(source, program, types, inner, line, end)?;
         let Ok(number) = put_stmt(program, line, kind.row) else {
             return Err(Refusal::Memory);

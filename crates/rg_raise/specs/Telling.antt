@@ -29,7 +29,7 @@ use Rattle.rg_raise.specs.declared.said.After.TheVariants as after
 
 -- what blocks are raised from
 abbrev pub given : Source → Given
-given s = record { ops = s.module.now.code.ops; maps = s.module.now.maps; methods = s.methods.now }
+given s = record { ops = s.parts.now.code.ops; maps = s.parts.now.maps; methods = s.methods.now }
 
 -- `room` stands there: the expressions in front of it are arguments
 abbrev pub roomed : (ops : List Op) → (at : ℕ) → Option (Unit {0})

@@ -41,7 +41,7 @@ fn declared(
         (stored (given source.now) types r end slot true) result }
     ensures grows { Extends program.old program.new }
 {
-    let Some(ty) = slot_type(source.module, end, slot) else {
+    let Some(ty) = slot_type(source.parts, end, slot) else {
         return Err(Refusal::NotRaised);
     };
     let Ok(name) = add_name(source.body.alloc, program, b'v', slot) else {
@@ -132,10 +132,10 @@ pub fn taken(
         (blocks.taken (given source.now) types.now.items r at) result }
     ensures grows { Extends program.old program.new }
 {
-    let Some(target) = target_at(source.module.code(), at) else {
+    let Some(target) = target_at(source.parts.code(), at) else {
         return Err(Refusal::NotRaised);
     };
-    let Some(end) = behind_pace(source.module.code(), right.paces, at + 1) else {
+    let Some(end) = behind_pace(source.parts.code(), right.paces, at + 1) else {
         return Err(Refusal::NotRaised);
     };
     let kind = taken_by(source, program, types, right, end, target)?;
@@ -154,10 +154,10 @@ fn call_by(
         IsCallSaid source.now.body.in_method program.old call c →
         MakesAs (IsKindSaid source.now.body.in_method (length types.now.items)) program.old program.new
         (blocks.call_by (given source.now) types.now.items c at
-        (sign target_of source.now.module.now.code.ops at)) result }
+        (sign target_of source.now.parts.now.code.ops at)) result }
     ensures grows { Extends program.old program.new }
 {
-    match target_at(source.module.code(), at) {
+    match target_at(source.parts.code(), at) {
         Some(_) => {
             let right = RightSaid {
                 row: Right::Call(call.row),
@@ -166,7 +166,7 @@ fn call_by(
             taken(source, program, types, right, at)
         }
         None => {
-            let Some(end) = behind_dropped(source.module.code(), call.result, at) else {
+            let Some(end) = behind_dropped(source.parts.code(), call.result, at) else {
                 return Err(Refusal::NotRaised);
             };
             let row = StmtKind::Call(call.row);
@@ -186,20 +186,20 @@ fn written_to(
 ) -> Result<(KindSaid, usize), Refusal>
     requires path { (s : ℕ) × (ks : List ℕ) × IsPathTo program.old source.now.body.in_method path s ks }
     requires left { (fs : List OneFront) ×
-        AreLeft program.old source.now.body.in_method source.now.module.now.code.ops fronts fs }
+        AreLeft program.old source.now.body.in_method source.now.parts.now.code.ops fronts fs }
     ensures told { (s : ℕ) (ks : List ℕ) (fs : List OneFront) →
         IsPathTo program.old source.now.body.in_method path s ks →
-        AreLeft program.old source.now.body.in_method source.now.module.now.code.ops fronts fs →
+        AreLeft program.old source.now.body.in_method source.now.parts.now.code.ops fronts fs →
         MakesAs (IsKindSaid source.now.body.in_method (length types.now.items)) program.old program.new
         (blocks.written_to (given source.now) types.now.items s ks fs fronts.code.end)
         result }
     ensures grows { Extends program.old program.new }
 {
     let (right, behind) = right_behind(source, program, types, fronts)?;
-    let Some(field) = put_at(source.module.code(), behind) else {
+    let Some(field) = put_at(source.parts.code(), behind) else {
         return Err(Refusal::NotRaised);
     };
-    let Some(end) = behind_pace(source.module.code(), right.paces, behind + 1) else {
+    let Some(end) = behind_pace(source.parts.code(), right.paces, behind + 1) else {
         return Err(Refusal::NotRaised);
     };
     let Ok(path) = longer_path(source.body, program, path, field) else {
@@ -225,17 +225,17 @@ pub fn element_written(
     ensures told { (s : ℕ) (ks : List ℕ) (e : Raised) (fs : List OneFront) →
         IsPathTo program.old source.now.body.in_method path s ks →
         IsTree program.old index (named source.now.body.in_method e) →
-        AreLeft program.old source.now.body.in_method source.now.module.now.code.ops fronts fs →
+        AreLeft program.old source.now.body.in_method source.now.parts.now.code.ops fronts fs →
         MakesAs (IsKindSaid source.now.body.in_method (length types.now.items)) program.old program.new
         (blocks.element_written (given source.now) types.now.items s ks e fs
         fronts.code.end) result }
     ensures grows { Extends program.old program.new }
 {
     let (right, behind) = right_behind(source, program, types, fronts)?;
-    let Some(()) = put_element_at(source.module.code(), behind) else {
+    let Some(()) = put_element_at(source.parts.code(), behind) else {
         return Err(Refusal::NotRaised);
     };
-    let Some(end) = behind_pace(source.module.code(), right.paces, behind + 1) else {
+    let Some(end) = behind_pace(source.parts.code(), right.paces, behind + 1) else {
         return Err(Refusal::NotRaised);
     };
     let row = StmtKind::SetAt {
@@ -289,11 +289,11 @@ fn room_by(
 ) -> Result<(KindSaid, usize), Refusal>
     requires path { (s : ℕ) × (ks : List ℕ) × IsPathTo program.old source.now.body.in_method path s ks }
     requires left { (fs : List OneFront) ×
-        AreLeft program.old source.now.body.in_method source.now.module.now.code.ops fronts fs }
+        AreLeft program.old source.now.body.in_method source.now.parts.now.code.ops fronts fs }
     requires next { fronts.code.end + 1 < 2 ^ 64 }
     ensures told { (s : ℕ) (ks : List ℕ) (fs : List OneFront) →
         IsPathTo program.old source.now.body.in_method path s ks →
-        AreLeft program.old source.now.body.in_method source.now.module.now.code.ops fronts fs →
+        AreLeft program.old source.now.body.in_method source.now.parts.now.code.ops fronts fs →
         MakesAs (IsKindSaid source.now.body.in_method (length types.now.items)) program.old program.new
         (blocks.room_by (given source.now) types.now.items s ks fs (values_in fs)
         fronts.code.end) result }
@@ -320,16 +320,16 @@ pub fn object_by(
 ) -> Result<(KindSaid, usize), Refusal>
     requires path { (s : ℕ) × (ks : List ℕ) × IsPathTo program.old source.now.body.in_method path s ks }
     requires left { (fs : List OneFront) ×
-        AreLeft program.old source.now.body.in_method source.now.module.now.code.ops fronts fs }
+        AreLeft program.old source.now.body.in_method source.now.parts.now.code.ops fronts fs }
     ensures told { (s : ℕ) (ks : List ℕ) (fs : List OneFront) →
         IsPathTo program.old source.now.body.in_method path s ks →
-        AreLeft program.old source.now.body.in_method source.now.module.now.code.ops fronts fs →
+        AreLeft program.old source.now.body.in_method source.now.parts.now.code.ops fronts fs →
         MakesAs (IsKindSaid source.now.body.in_method (length types.now.items)) program.old program.new
         (blocks.object_by (given source.now) types.now.items s ks fs fronts.code.end
-        (sign behind_of source.now.module.now.code.ops fronts.code.end)) result }
+        (sign behind_of source.now.parts.now.code.ops fronts.code.end)) result }
     ensures grows { Extends program.old program.new }
 {
-    match behind_at(source.module.code(), fronts.code.end) {
+    match behind_at(source.parts.code(), fronts.code.end) {
         Some(Behind::Room) => room_by(source, program, types, path, fronts),
         Some(Behind::Swap { slot, index }) => swap_by(
             source.body,

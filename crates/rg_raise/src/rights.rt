@@ -42,15 +42,15 @@ pub(crate) fn called(
 ) -> Result<(CallSaid, usize), Refusal>
     ensures told { (s : ℕ) (ks : List ℕ) (rs : List Raised) →
         IsPathTo program.old source.now.body.in_method path s ks →
-        AreExprs program.old source.now.body.in_method source.now.module.now.code.ops args.now rs →
+        AreExprs program.old source.now.body.in_method source.now.parts.now.code.ops args.now rs →
         MakesAs (IsCallSaid source.now.body.in_method) program.old program.new
         (blocks.called (given source.now) types.now.items s ks rs at) result }
     ensures grows { Extends program.old program.new }
 {
-    let Some(behind) = behind_uses(source.module.code(), types, args.code, at) else {
+    let Some(behind) = behind_uses(source.parts.code(), types, args.code, at) else {
         return Err(Refusal::NotRaised);
     };
-    let Some(method) = call_at(source.module.code(), behind) else {
+    let Some(method) = call_at(source.parts.code(), behind) else {
         return Err(Refusal::NotRaised);
     };
     let Some(callee) = callee_of(source.methods, method) else {
@@ -90,14 +90,14 @@ fn result_by(
 ) -> Result<(RightSaid, usize), Refusal>
     ensures told { (s : ℕ) (ks : List ℕ) (fs : List OneFront) →
         IsPathTo program.old source.now.body.in_method path s ks →
-        AreLeft program.old source.now.body.in_method source.now.module.now.code.ops fronts.now fs →
+        AreLeft program.old source.now.body.in_method source.now.parts.now.code.ops fronts.now fs →
         MakesAs (IsRightSaid source.now.body.in_method) program.old program.new
         (blocks.result_by (given source.now) types.now.items s ks (values_in fs)
         fronts.now.code.end) result }
     ensures grows { Extends program.old program.new }
 {
     let args = expressions(source.body, fronts)?;
-    let Some(()) = room_at(source.module.code(), fronts.code.end) else {
+    let Some(()) = room_at(source.parts.code(), fronts.code.end) else {
         return Err(Refusal::NotRaised);
     };
     let behind = fronts.code.end + 1;
@@ -166,11 +166,11 @@ fn value_at(
 ) -> Result<(RightSaid, usize), Refusal>
     ensures { (e : Raised) →
         IsTree program.now row (named source.now.body.in_method e) →
-        Spans source.now.module.now.code.ops code (expression e ∷ []) →
+        Spans source.now.parts.now.code.ops code (expression e ∷ []) →
         MakesAs (IsRightSaid source.now.body.in_method) program.now program.now
         (blocks.right_by (given source.now) types.now.items e code.end None) result }
 {
-    let Some(end) = behind_uses(source.module.code(), types, code, code.end) else {
+    let Some(end) = behind_uses(source.parts.code(), types, code, code.end) else {
         return Err(Refusal::NotRaised);
     };
     let row = Right::Expr(row);
@@ -187,13 +187,13 @@ fn right_by(
 ) -> Result<(RightSaid, usize), Refusal>
     ensures told { (e : Raised) →
         IsTree program.old row (named source.now.body.in_method e) →
-        Spans source.now.module.now.code.ops code (expression e ∷ []) →
+        Spans source.now.parts.now.code.ops code (expression e ∷ []) →
         MakesAs (IsRightSaid source.now.body.in_method) program.old program.new
         (blocks.right_by (given source.now) types.now.items e code.end
-        (sign walk_of source.now.module.now.code.ops code.end)) result }
+        (sign walk_of source.now.parts.now.code.ops code.end)) result }
     ensures grows { Extends program.old program.new }
 {
-    match walk_at(source.module.code(), code.end) {
+    match walk_at(source.parts.code(), code.end) {
         None => value_at(source, program, types, row, code),
         Some(walk) => {
             let right = array_row(source.body, program, walk, row)?;
@@ -224,7 +224,7 @@ pub fn made_behind(
         (blocks.right_behind (given source.now) types [] at) result }
     ensures grows { Extends program.old program.new }
 {
-    let Some(making) = making_at(source.module.code(), at) else {
+    let Some(making) = making_at(source.parts.code(), at) else {
         return Err(Refusal::NotRaised);
     };
     let paces = is_paced(making);
@@ -242,7 +242,7 @@ pub(crate) fn right_behind(
     fronts: Fronts,
 ) -> Result<(RightSaid, usize), Refusal>
     ensures told { (fs : List OneFront) →
-        AreLeft program.old source.now.body.in_method source.now.module.now.code.ops fronts fs →
+        AreLeft program.old source.now.body.in_method source.now.parts.now.code.ops fronts fs →
         MakesAs (IsRightSaid source.now.body.in_method) program.old program.new
         (blocks.right_behind (given source.now) types.now.items fs fronts.code.end)
         result }

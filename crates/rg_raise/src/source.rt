@@ -7,7 +7,7 @@ use rg_verify::{Body, Callee};
 #[derive(Clone, Copy)]
 pub struct Source<'a> {
     pub body: Body,
-    pub module: &'a Module,
+    pub parts: &'a Module,
     /// in order of their numbers
     pub methods: &'a [Callee],
 }

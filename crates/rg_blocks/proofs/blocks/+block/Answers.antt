@@ -14,7 +14,8 @@ use Rattle.rg_verify.specs.declared.signs.Walk.{Walk}
 use Rattle.rg_verify.specs.Raised.{Raised, Front, expression}
 use Rattle.rg_verify.specs.Statements.{Block, Kind, value, types_inside}
 use Rattle.rg_verify.specs.Signs.{open_of, walk_of}
-use Rattle.rg_verify.specs.Blocks.{Told, sign, window, path_in, fronts_at, close_by, expr_by, open_by, kind_by, kind_told, block_told}
+use Rattle.rg_verify.specs.Blocks.{Told, sign, cleared, window, path_in, fronts_at, close_by, expr_by, open_by, kind_by, kind_told, block_told}
+use Rattle.rg_raise.specs.Fronts.{Spans, TakesFirst}
 use Rattle.rg_raise.specs.Telling.{given, MakesAs, IsKindSaid}
 use Rattle.rg_raise.proofs.Rows.{means-one, names-none}
 use Rattle.rg_tree.proofs.Adding.{extends-trans, means-later}
@@ -24,7 +25,8 @@ use Rattle.rg_blocks.proofs.Put.{finds-path, finds-no-path}
 use Rattle.rg_blocks.proofs.Going.{Looping, looping-begins}
 use Rattle.rg_blocks.proofs.BlockParts.{jumped-astray, window-astray, window-untyped, window-classless, window-open, kind-as, kind-unread, kind-many, block-none}
 use Rattle.rg_blocks.proofs.Exprs.{astray, jumped-made, jumped-goes, close-print, close-return, close-test, expr-uncleared, expr-closed, expr-array}
-use Rattle.rg_blocks.proofs.Exprs.{open-collect}
+use Rattle.rg_blocks.proofs.Exprs.{open-collect, kind-refused, kind-made}
+use Rattle.rg_raise.proofs.FrontRows.{none-left, some-left}
 use Rattle.rg_blocks.proofs.Firsts.{first-none, first-expression, first-object, first-place}
 use Rattle.rg_blocks.proofs.BlockRows.{otherwise-made, tested-made, tested-goes, window-made, window-closed, open-made, open-closed, field-made, field-closed}
 use Rattle.rg_blocks.proofs.BlockRows.{field-unfound}
@@ -379,7 +381,7 @@ pub kind_by-expr_by-requires : goal.kind_by-expr_by-requires
 kind_by-expr_by-requires b c =
     let t = c.args.program.now in
     let m = c.args.source.now.body.in_method in
-    let ops = c.args.source.now.module.now.code.ops in
+    let ops = c.args.source.now.parts.now.code.ops in
     let x = first-expression t m ops c.args.fronts c.requires.0 c.in-Some-Expression.row
     (subst (TakesFirst t m ops c.args.fronts c.requires.0) c.in-Some-Expression.is c.requires.1) in
     (x.0, x.2.2.1)
@@ -405,7 +407,7 @@ pub kind_by-object_by-requires-clause-path : goal.kind_by-object_by-requires-cla
 kind_by-object_by-requires-clause-path b c =
     let t = c.args.program.now in
     let m = c.args.source.now.body.in_method in
-    let ops = c.args.source.now.module.now.code.ops in
+    let ops = c.args.source.now.parts.now.code.ops in
     let (s, ks, rest, same, path, left) = first-object t m ops c.args.fronts c.requires.0 c.in-Some-Object.path
     (subst (TakesFirst t m ops c.args.fronts c.requires.0) c.in-Some-Object.is c.requires.1) in
     (s, ks, path)
@@ -414,7 +416,7 @@ pub kind_by-object_by-requires-clause-left : goal.kind_by-object_by-requires-cla
 kind_by-object_by-requires-clause-left b c =
     let t = c.args.program.now in
     let m = c.args.source.now.body.in_method in
-    let ops = c.args.source.now.module.now.code.ops in
+    let ops = c.args.source.now.parts.now.code.ops in
     let (s, ks, rest, same, path, left) = first-object t m ops c.args.fronts c.requires.0 c.in-Some-Object.path
     (subst (TakesFirst t m ops c.args.fronts c.requires.0) c.in-Some-Object.is c.requires.1) in
     (rest, left)
@@ -449,10 +451,20 @@ kind_told-kind_by-requires b c =
     (fs, c.take_first-first.ensures.takes c.raise_fronts.new.program c.args.source.now.body.in_method fs are)
 
 pub kind_told-returns-in_err-fronts-clause-told : goal.kind_told-returns-in_err-fronts-clause-told
-kind_told-returns-in_err-fronts-clause-told b c = ?
+kind_told-returns-in_err-fronts-clause-told b c =
+    let p = err_from_is_err_and c.from_residual.result c.from_residual.ensures.1 in
+    let g = given c.args.source.now in
+    rw (p.1, p.2) (kind-refused c.args.source.now.body.in_method g (block_told g c.args.depth) c.args.types.now.items c.args.line c.args.at
+    c.args.program.now c.raise_fronts.new.program c.in_err-fronts.field-0.0 c.in_err-fronts.ensures.told)
 
 pub kind_told-returns-clause-told : goal.kind_told-returns-clause-told
-kind_told-returns-clause-told b c = ?
+kind_told-returns-clause-told b c =
+    let m = c.args.source.now.body.in_method in
+    let g = given c.args.source.now in
+    let u = c.raise_fronts.new.program in
+    kind-made m g (block_told g c.args.depth) c.args.types.now.items c.args.line c.args.at c.args.program.now u c.in_ok-fronts.fronts
+    c.in_ok-fronts.ensures.told c.kind_by.new.program c.kind_by.result
+    (λ fs are. rw c.take_first-first.ensures.end at (c.kind_by.ensures.told fs (c.take_first-first.ensures.takes u m fs are)))
 
 pub kind_told-returns-clause-grows : goal.kind_told-returns-clause-grows
 kind_told-returns-clause-grows b c = extends-trans c.in_ok-fronts.ensures.grows c.kind_by.ensures.grows

@@ -49,4 +49,4 @@ invariant-raise_inner-loop-line l =
     Looping l.source.body.in_method g (block_told g l.inner) l.fn.program l.program l.fn.types.items l.types.items l.numbers.items l.at l.end
 
 abbrev pub decreases-raise_inner-loop-line : goal.decreases-raise_inner-loop-line
-decreases-raise_inner-loop-line l = length l.source.module.now.code.ops - l.end
+decreases-raise_inner-loop-line l = length l.source.parts.now.code.ops - l.end

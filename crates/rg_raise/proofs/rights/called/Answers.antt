@@ -10,7 +10,7 @@ pub returns-in_default-clause-told : goal.returns-in_default-clause-told
 returns-in_default-clause-told c s ks rs path args =
     let clears = rw c.code.ensures at c.in_default.ensures in
     let types = c.args.types.now.items in
-    let same = ap (λ (ss : List ℕ). cleared c.args.source.now.module.now.code.ops ss c.args.at) (args.spans types) in
+    let same = ap (λ (ss : List ℕ). cleared c.args.source.now.parts.now.code.ops ss c.args.at) (args.spans types) in
     called-uncleared (given c.args.source.now) types s ks rs c.args.at (sym (clears ∙ same))
 
 pub returns-in_default-call_at-clause-told : goal.returns-in_default-call_at-clause-told
@@ -18,7 +18,7 @@ returns-in_default-call_at-clause-told c s ks rs path args =
     let clears = rw c.code.ensures at c.in-Some.ensures in
     let call = rw c.code-2.ensures at c.in_default-call_at.ensures.told in
     let types = c.args.types.now.items in
-    let same = ap (λ (ss : List ℕ). cleared c.args.source.now.module.now.code.ops ss c.args.at) (args.spans types) in
+    let same = ap (λ (ss : List ℕ). cleared c.args.source.now.parts.now.code.ops ss c.args.at) (args.spans types) in
     called-nothing (given c.args.source.now) types s ks rs c.args.at c.in-Some.behind (sym (clears ∙ same)) (sym call)
 
 pub returns-in_default-callee_of-clause-told : goal.returns-in_default-callee_of-clause-told
@@ -26,7 +26,7 @@ returns-in_default-callee_of-clause-told c s ks rs path args =
     let clears = rw c.code.ensures at c.in-Some.ensures in
     let call = rw c.code-2.ensures at c.in-Some-call_at.ensures.told in
     let types = c.args.types.now.items in
-    let same = ap (λ (ss : List ℕ). cleared c.args.source.now.module.now.code.ops ss c.args.at) (args.spans types) in
+    let same = ap (λ (ss : List ℕ). cleared c.args.source.now.parts.now.code.ops ss c.args.at) (args.spans types) in
     called-nobody (given c.args.source.now) types s ks rs c.args.at c.in-Some.behind (sym (clears ∙ same))
     c.in-Some-call_at.method (sym call) (sym c.in_default-callee_of.ensures)
 
@@ -37,7 +37,7 @@ returns-clause-told c s ks rs path args =
     let clears = rw c.code.ensures at c.in-Some.ensures in
     let call = rw c.code-2.ensures at c.in-Some-call_at.ensures.told in
     let types = c.args.types.now.items in
-    let same = ap (λ (ss : List ℕ). cleared c.args.source.now.module.now.code.ops ss c.args.at) (args.spans types) in
+    let same = ap (λ (ss : List ℕ). cleared c.args.source.now.parts.now.code.ops ss c.args.at) (args.spans types) in
     let trees : AreTrees t c.as_slice.result.now (map (named m) rs) =
     subst (λ (ns : List ℕ). AreTrees t ns (map (named m) rs)) (sym c.as_slice.ensures.value) args.trees in
     called-made (given c.args.source.now) types s ks rs c.args.at c.in-Some.behind (sym (clears ∙ same))

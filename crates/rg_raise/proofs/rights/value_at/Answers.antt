@@ -9,7 +9,7 @@ returns-in_default c e tree spans =
     let clears = rw c.code.ensures at c.in_default.ensures in
     let end = c.args.code.end in
     let types = c.args.types.now.items in
-    let same = ap (λ (ss : List ℕ). cleared c.args.source.now.module.now.code.ops ss end) (spans types) in
+    let same = ap (λ (ss : List ℕ). cleared c.args.source.now.parts.now.code.ops ss end) (spans types) in
     right-uncleared (given c.args.source.now) types e end (sym (clears ∙ same))
 
 pub returns : goal.returns
@@ -17,5 +17,5 @@ returns c e tree spans =
     let clears = rw c.code.ensures at c.in-Some.ensures in
     let end = c.args.code.end in
     let types = c.args.types.now.items in
-    let same = ap (λ (ss : List ℕ). cleared c.args.source.now.module.now.code.ops ss end) (spans types) in
+    let same = ap (λ (ss : List ℕ). cleared c.args.source.now.parts.now.code.ops ss end) (spans types) in
     right-value (given c.args.source.now) types e end c.args.program.now c.args.source.now.body.in_method c.args.row c.in-Some.end (sym (clears ∙ same)) tree
