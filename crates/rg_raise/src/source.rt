@@ -4,7 +4,7 @@ use rg_module::Module;
 use rg_verify::{Body, Callee};
 
 /// What stays along a body: the module with its code and its maps, and the methods of the module.
-#[derive(Clone, Copy)]
+#[derive(Drop)]
 pub struct Source<'a> {
     pub body: Body,
     pub parts: &'a Module,
