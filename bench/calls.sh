@@ -353,7 +353,8 @@ for file in glob.glob("crates/*/src/**/*.rt", recursive=True):
 def variants(crate, name):
     of = enums.get(name, {})
     if crate in of: return [*of[crate]]
-    return [*next(iter(of.values()))] if len(of) == 1 else [*of.get("rg_spell" if crate == "rg_module" else "rg_base", [])]
+    home = {"rg_module": "rg_spell", "rg_raise": "rg_verify", "rg_blocks": "rg_verify"}.get(crate, "rg_base")
+    return [*next(iter(of.values()))] if len(of) == 1 else [*of.get(home, [])]
 
 def functions(item, indent):
     for m in re.finditer(rf"(?m)^{indent}(pub )?(?:ghost |const )*fn (\w+)", item):
