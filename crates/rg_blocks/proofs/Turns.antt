@@ -84,6 +84,11 @@ pub block-inner : (g : Given) (depth inner : ℕ) (types : List Ty) (at : ℕ) �
 unfolding block_told
 block-inner g depth inner types at e = ap (λ (d : ℕ). block_told g d types at) e
 
+-- a number that isn't 0 is one more than another one
+pub under : (depth : ℕ) → (depth ≡ 0 → ⊥) → depth ≡ suc (depth - 1)
+under zero other = absurd (other refl)
+under (suc d) other = omega arith
+
 -- so what was made of its statements is made of it
 pub block-so : (g : Given) (depth inner : ℕ) (types : List Ty) (at : ℕ) → depth ≡ suc inner → (m : Truth) (slots : ℕ) (old new : Tables)
     (r : Result (Span × ℕ) Refusal) → MakesAs (IsBlockSaid m slots) old new (statements g (block_told g inner) (suc (length g.ops)) types at) r

@@ -18,3 +18,10 @@ pub returns-clause-told : goal.returns-clause-told
 returns-clause-told c =
     fronts-raised c.args.program.now c.raise_expressions.new.program c.args.body.in_method c.args.code.now.ops c.args.from c.in_ok-rows.rows
     c.in_ok-rows.end c.in_ok-rows.ensures.raises
+
+pub returns-clause-grows : goal.returns-clause-grows
+returns-clause-grows c =
+    let (fs, from, grown, are) =
+    fronts-raised c.args.program.now c.raise_expressions.new.program c.args.body.in_method c.args.code.now.ops c.args.from c.in_ok-rows.rows
+    c.in_ok-rows.end c.in_ok-rows.ensures.raises in
+    grown
