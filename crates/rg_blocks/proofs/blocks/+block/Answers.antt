@@ -356,20 +356,20 @@ kind_by-returns-then-len-ne0-clause-told b c fs is =
     let g = given c.args.source.now in
     let types = c.args.types.now.items in
     let end = c.args.fronts.code.end in
-    let x = first-expression t m g.ops c.args.fronts fs c.in-Some-Expression.row
+    let (e, rest, same, tree, rows, spans) = first-expression t m g.ops c.args.fronts fs c.in-Some-Expression.row
     (subst (TakesFirst t m g.ops c.args.fronts fs) c.in-Some-Expression.is is) in
-    ap (λ (ys : List Front). kind_by g (block_told g c.args.depth) types c.args.line c.args.start ys end) x.2.2.0
-    ∙ kind-many g (block_told g c.args.depth) types c.args.line c.args.start x.0 x.2.0 end
-    (some-left t m c.args.fronts.rows.items x.2.0 x.2.2.2.1 (λ z. let other = c.if-len-ne0.true in let n = c.len.ensures in grind (arith, nat_tests)))
+    ap (λ (ys : List Front). kind_by g (block_told g c.args.depth) types c.args.line c.args.start ys end) same
+    ∙ kind-many g (block_told g c.args.depth) types c.args.line c.args.start e rest end
+    (some-left t m c.args.fronts.rows.items rest rows (λ z. let other = c.if-len-ne0.true in let n = c.len.ensures in grind (arith, nat_tests)))
 
 pub kind_by-expr_by-requires : goal.kind_by-expr_by-requires
 kind_by-expr_by-requires b c =
     let t = c.args.program.now in
     let m = c.args.source.now.body.in_method in
     let ops = c.args.source.now.parts.now.code.ops in
-    let x = first-expression t m ops c.args.fronts c.requires.0 c.in-Some-Expression.row
+    let (e, rest, same, tree, rows, spans) = first-expression t m ops c.args.fronts c.requires.0 c.in-Some-Expression.row
     (subst (TakesFirst t m ops c.args.fronts c.requires.0) c.in-Some-Expression.is c.requires.1) in
-    (x.0, x.2.2.1)
+    (e, tree)
 
 pub kind_by-returns-in-Some-Expression-clause-told : goal.kind_by-returns-in-Some-Expression-clause-told
 kind_by-returns-in-Some-Expression-clause-told b c fs is =
@@ -378,15 +378,15 @@ kind_by-returns-in-Some-Expression-clause-told b c fs is =
     let g = given c.args.source.now in
     let types = c.args.types.now.items in
     let end = c.args.fronts.code.end in
-    let x = first-expression t m g.ops c.args.fronts fs c.in-Some-Expression.row
+    let (e, rest, same, tree, rows, spans) = first-expression t m g.ops c.args.fronts fs c.in-Some-Expression.row
     (subst (TakesFirst t m g.ops c.args.fronts fs) c.in-Some-Expression.is is) in
     let zero : length c.args.fronts.rows.items ≡ 0 = let z = c.if-len-ne0.false in let n = c.len.ensures in grind (arith, nat_tests) in
-    let none : x.2.0 ≡ [] = none-left t m c.args.fronts.rows.items x.2.0 x.2.2.2.0 zero in
-    let all : fs ≡ expression x.0 ∷ [] = x.2.2.0 ∙ ap (λ (ys : List Front). expression x.0 ∷ ys) none in
-    let spans : Spans g.ops c.args.fronts.code (expression x.0 ∷ []) =
-    subst (λ (ys : List Front). Spans g.ops c.args.fronts.code (expression x.0 ∷ ys)) none x.2.2.2.2 in
+    let none : rest ≡ [] = none-left t m c.args.fronts.rows.items rest rows zero in
+    let all : fs ≡ expression e ∷ [] = same ∙ ap (λ (ys : List Front). expression e ∷ ys) none in
+    let only : Spans g.ops c.args.fronts.code (expression e ∷ []) =
+    subst (λ (ys : List Front). Spans g.ops c.args.fronts.code (expression e ∷ ys)) none spans in
     subst (λ (ys : List Front). MakesAs (IsKindSaid m (length types)) t c.expr_by.new.program
-    (kind_by g (block_told g c.args.depth) types c.args.line c.args.start ys end) c.expr_by.result) (sym all) (c.expr_by.ensures.told x.0 x.2.2.1 spans)
+    (kind_by g (block_told g c.args.depth) types c.args.line c.args.start ys end) c.expr_by.result) (sym all) (c.expr_by.ensures.told e tree only)
 
 pub kind_by-object_by-requires-clause-path : goal.kind_by-object_by-requires-clause-path
 kind_by-object_by-requires-clause-path b c =
