@@ -200,10 +200,3 @@ looping-begins m g inner t types at = record {
   more = [];
   types_are = sym (append-nil types);
 }
-
--- the block ends where no statement begins
-pub looping-ends : (m : Truth) (g : Given) (inner : Inner) (old t : Tables) (before types : List Ty) (numbers : List ℕ) (at end : ℕ)
-    → (l : Looping m g inner old t before types numbers at end) → starts g.ops end ≡ None
-    → (b : Block) × (statements g inner (suc (length g.ops)) before at ≡ Some (b, end)) × (block_named m (length before) b ≡ block_with l.going.stmts)
-looping-ends m g inner old t before types numbers at end l h =
-    going-ends m (length before) t numbers types _ (statements g inner (suc l.left) types end) l.going end (loop-ends g inner l.left types end h)

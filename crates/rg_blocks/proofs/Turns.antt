@@ -1,9 +1,10 @@
 -- The turns of a loop over the statements of a block.
-use Rattle.std.proofs.Common.{◌≡◌, ℕ, zero, suc, ◌+◌, ◌-◌, ◌<◌, ◌≤◌, Bool as Truth, true, false, List, [], ◌∷◌, ◌++◌, drop, take, length, slice_get}
+use Rattle.std.proofs.Common.{◌≡◌, ℕ, zero, suc, ◌+◌, ◌-◌, ◌<◌, ◌≤◌, Bool as Truth, true, false, List, [], ◌∷◌, ◌++◌, drop, take, length, slice_get, Vec}
 use Rattle.std.proofs.Common.{Option, Some, None, Result, Ok, Err, refl, sym, ap, ◌∙◌, subst, append_assoc, arith}
 use Rattle.std.proofs.Math.Seq.{take-append_seam}
 use Rattle.std.proofs.lemmas.List.{length-append, length-drop}
 use Rattle.std.proofs.lemmas.Option.{slice_get_within}
+use Rattle.std.specs.declared.alloc.Global.{Global}
 use Rattle.rg_base.specs.declared.ty.Ty.{Ty}
 use Rattle.rg_tree.specs.declared.rows.Span.{Span}
 use Rattle.rg_tree.specs.Tree as tree
@@ -24,7 +25,7 @@ use Rattle.rg_verify.proofs.BlockRaises.{kind-piece, starts-marked, block-piece}
 use Rattle.rg_raise.specs.declared.said.KindSaid.{KindSaid}
 use Rattle.rg_raise.specs.declared.said.After.TheVariants as after
 use Rattle.rg_raise.specs.Telling.{MakesAs, IsKindSaid, kind_of, after_of}
-use Rattle.rg_blocks.specs.Blocks.{IsBlockSaid, AddsBlock, block_with}
+use Rattle.rg_blocks.specs.Blocks.{AreSaid, IsBlockSaid, AddsBlock, block_with}
 use Rattle.rg_raise.proofs.Rows.{means-now}
 use Rattle.rg_raise.proofs.Telling.{bind-none, makes-some, makes-so, refused}
 use Rattle.rg_blocks.proofs.Going.{Going, going-later, going-on, going-ends, loop-ends, loop-refused, loop-last, loop-more, behind-last, behind-same}
@@ -68,15 +69,13 @@ module _ (g : Given) (depth : ℕ) (types : List Ty) (line at : ℕ) (begins : s
       sym (length-drop at g.ops) ∙ ap length p.parts ∙ length-append body (drop end g.ops) ∙ ap (λ (n : ℕ). length body + n) (length-drop end g.ops) in
       (omega (arith, some, p.place), omega (arith, some, p.place, all, begins-within))
 
--- the block that has ended
-pub block-made : (m : Truth) (slots : ℕ) (old v w : Tables) (numbers : List ℕ) (types : List Ty) (wanted rest : Told Block)
-    → (going : Going m slots v numbers types wanted rest) → (end : ℕ) (span : Span) → Extends old v → rest ≡ Some (empty, end)
-    → AddsBlock v w numbers span → MakesAs (IsBlockSaid m slots) old w wanted (Ok (span, end))
-block-made m slots old v w numbers types wanted rest going end span grown ended block =
-    let (b, told, named) = going-ends m slots v numbers types wanted rest going end ended in
-    let adds = block going.stmts going.are in
-    makes-so (IsBlockSaid m slots) old w wanted span b end end told refl (extends-trans grown adds.extends)
-    (subst (λ (x : tree.Block). Means block_of IsBlockIn w span x) (sym named) adds.means)
+-- the statements of a block that has ended
+stmts-made : (m : Truth) (slots : ℕ) (old v : Tables) (ns : Vec ℕ Global) (types : List Ty) (wanted rest : Told Block)
+    → Going m slots v ns.items types wanted rest → (end : ℕ) → Extends old v → rest ≡ Some (empty, end)
+    → MakesAs (AreSaid m slots) old v wanted (Ok (ns, end))
+stmts-made m slots old v ns types wanted rest going end grown ended =
+    let (b, told, named) = going-ends m slots v ns.items types wanted rest going end ended in
+    makes-so (AreSaid m slots) old v wanted ns b end end told refl grown (going.stmts, going.are, named)
 
 -- a block that is not too deep
 pub block-inner : (g : Given) (depth inner : ℕ) (types : List Ty) (at : ℕ) → depth ≡ suc inner
@@ -89,12 +88,26 @@ pub under : (depth : ℕ) → (depth ≡ 0 → ⊥) → depth ≡ suc (depth - 1
 under zero other = absurd (other refl)
 under (suc d) other = omega arith
 
--- so what was made of its statements is made of it
-pub block-so : (g : Given) (depth inner : ℕ) (types : List Ty) (at : ℕ) → depth ≡ suc inner → (m : Truth) (slots : ℕ) (old new : Tables)
-    (r : Result (Span × ℕ) Refusal) → MakesAs (IsBlockSaid m slots) old new (statements g (block_told g inner) (suc (length g.ops)) types at) r
-    → MakesAs (IsBlockSaid m slots) old new (block_told g depth types at) r
-block-so g depth inner types at e m slots old new r made =
-    subst (λ (o : Told Block). MakesAs (IsBlockSaid m slots) old new o r) (sym (block-inner g depth inner types at e)) made
+module _ (m : Truth) (g : Given) (depth inner : ℕ) (types : List Ty) (at : ℕ) (deep : depth ≡ suc inner) (old u : Tables) where
+  pub block-refused : (f : Refusal)
+      → MakesAs (AreSaid m (length types)) old u (statements g (block_told g inner) (suc (length g.ops)) types at) (Err f)
+      → MakesAs (IsBlockSaid m (length types)) old u (block_told g depth types at) (Err f)
+  block-refused f made =
+      refused (AreSaid m (length types)) (IsBlockSaid m (length types)) old u old u
+      (statements g (block_told g inner) (suc (length g.ops)) types at) (block_told g depth types at) f made
+      (λ n. block-inner g depth inner types at deep ∙ n)
+
+  -- the statements of a block, and then its row
+  pub block-made : (w : Tables) (ns : Vec ℕ Global) (span : Span) (end : ℕ)
+      → MakesAs (AreSaid m (length types)) old u (statements g (block_told g inner) (suc (length g.ops)) types at) (Ok (ns, end))
+      → AddsBlock u w ns.items span → MakesAs (IsBlockSaid m (length types)) old w (block_told g depth types at) (Ok (span, end))
+  block-made w ns span end made block =
+      let (b, told, grown, is) = makes-some (AreSaid m (length types)) old u
+      (statements g (block_told g inner) (suc (length g.ops)) types at) ns end made in
+      let (ss, are, named) = is in
+      let adds = block ss are in
+      makes-so (IsBlockSaid m (length types)) old w (block_told g depth types at) span b end end (block-inner g depth inner types at deep ∙ told) refl
+      (extends-trans grown adds.extends) (subst (λ (x : tree.Block). Means block_of IsBlockIn w span x) (sym named) adds.means)
 
 -- the types in front of a block are there again
 pub shortened : (before more types : List Ty) → types ≡ before ++ more → take (length before) types ≡ before
@@ -119,9 +132,9 @@ module _ (m : Truth) (g : Given) (depth : ℕ) (old t : Tables) (before types : 
   -- a statement that is refused
   pub turn-refused : (u : Tables) (f : Refusal)
       → MakesAs (IsKindSaid m (length types)) t u (kind_told g (block_told g depth) types line end) (Err f)
-      → MakesAs (IsBlockSaid m (length before)) old u wanted (Err f)
+      → MakesAs (AreSaid m (length before)) old u wanted (Err f)
   turn-refused u f made =
-      refused (IsKindSaid m (length types)) (IsBlockSaid m (length before)) t u old u (kind_told g (block_told g depth) types line end) wanted f made
+      refused (IsKindSaid m (length types)) (AreSaid m (length before)) t u old u (kind_told g (block_told g depth) types line end) wanted f made
       (λ n. l.going.told ∙ bind-none left _ (loop-refused g (block_told g depth) l.left types end line begins n))
 
   module _ (u v : Tables) (said : KindSaid) (behind number : ℕ)
@@ -186,14 +199,23 @@ module _ (m : Truth) (g : Given) (depth : ℕ) (old t : Tables) (before types : 
         (next-turn k x goes (l.more ++ ty ∷ [])
         (same ∙ ap (λ (ts : List Ty). ts ++ ty ∷ []) l.types_are ∙ append_assoc before l.more (ty ∷ [])))
 
-    pub turn-last : (w : Tables) (span : Span) → said.after ≡ after.Last → AddsBlock v w (numbers ++ number ∷ []) span
-        → MakesAs (IsBlockSaid m (length before)) old w wanted (Ok (span, behind))
-    turn-last w span e block =
+    pub turn-last : (ns : Vec ℕ Global) → ns.items ≡ numbers ++ number ∷ [] → said.after ≡ after.Last
+        → MakesAs (AreSaid m (length before)) old v wanted (Ok (ns, behind))
+    turn-last ns all e =
         let (k, x) = turn in
         let last = behind-last k (sym x.after_is ∙ e) in
         let old_going = going-later m (length before) t numbers types wanted left l.going u x.grown in
         let one : left ≡ ◌>>=◌ {A = Block × ℕ} (Some (empty, behind)) (λ b. Some (next line k b.0, b.1)) =
         loop-last g (block_told g depth) l.left types end line begins k behind x.told last in
         let going = going-on m (length before) u numbers types wanted left old_going v line number k (Some (empty, behind)) one x.adds in
-        block-made m (length before) old v w (numbers ++ number ∷ []) (types_behind types k) wanted (Some (empty, behind)) going behind span
-        (extends-trans l.grown (extends-trans x.grown put.extends)) refl block
+        stmts-made m (length before) old v ns (types_behind types k) wanted (Some (empty, behind))
+        (subst (λ (ks : List ℕ). Going m (length before) v ks (types_behind types k) wanted (Some (empty, behind))) (sym all) going) behind
+        (extends-trans l.grown (extends-trans x.grown put.extends)) refl
+
+-- the statements end where none begins
+pub statements-end : (m : Truth) (g : Given) (depth : ℕ) (old t : Tables) (before types : List Ty) (ns : Vec ℕ Global) (at end : ℕ)
+    → Looping m g (block_told g depth) old t before types ns.items at end → starts g.ops end ≡ None
+    → MakesAs (AreSaid m (length before)) old t (statements g (block_told g depth) (suc (length g.ops)) before at) (Ok (ns, end))
+statements-end m g depth old t before types ns at end l none =
+    stmts-made m (length before) old t ns types _ (statements g (block_told g depth) (suc l.left) types end) l.going end l.grown
+    (loop-ends g (block_told g depth) l.left types end none)

@@ -1,5 +1,6 @@
 -- What calls make of blocks that are told at an address.
-use Rattle.std.specs.Prelude.{◌≡◌, ℕ, ◌+◌, Bool as Truth, List, [], ◌∷◌, All, map, Option, Some, None, option_map}
+use Rattle.std.specs.Prelude.{◌≡◌, ℕ, ◌+◌, Bool as Truth, List, [], ◌∷◌, All, map, Option, Some, None, option_map, Vec}
+use Rattle.std.specs.declared.alloc.Global.{Global}
 use Rattle.rg_base.specs.declared.ty.Ty.{Ty}
 use Rattle.rg_tree.specs.declared.rows.Path as rows
 use Rattle.rg_tree.specs.declared.rows.Span.{Span}
@@ -39,6 +40,10 @@ AreStmts t ns ss = Means (λ u. map (stmt_at u)) (λ u. All (IsStmtNumber u)) t 
 abbrev pub block_with : List tree.Stmt → tree.Block
 block_with [] = tree.empty
 block_with (s ∷ ss) = tree.then s (block_with ss)
+
+-- statements by their numbers, which a block has behind so many variables
+abbrev pub AreSaid : (in_method : Truth) → (slots : ℕ) → Tables → Vec ℕ Global → Block → Type 0
+AreSaid m n t ns b = (ss : List tree.Stmt) × AreStmts t ns.items ss × (block_named m n b ≡ block_with ss)
 
 -- whatever statements these numbers stand for, the span is their block
 abbrev pub AddsBlock : (old new : Tables) → List ℕ → Span → Type 0

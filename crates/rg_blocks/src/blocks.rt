@@ -1,6 +1,7 @@
 //! Blocks, raised from their code (docs/architecture.md, "Modules").
 
-ghost use Rattle.std.specs.Prelude.{◌≡◌, ◌+◌, ◌<◌, ◌^◌, ℕ, List, [], ◌∷◌, length, IfOk, Some};
+ghost use Rattle.std.specs.Prelude.{◌≡◌, ℕ, suc, ◌+◌, ◌<◌, ◌^◌, List, [], ◌∷◌, ◌++◌, length, IfOk, Some, None};
+ghost use Rattle.rg_base.specs.declared.ty.Ty.{Ty as Types};
 ghost use Rattle.rg_tree.specs.Adds.{Extends};
 ghost use Rattle.rg_verify.specs.Raised.{Raised, named, Front as OneFront, expression};
 ghost use Rattle.rg_verify.specs.declared.signs.Walk.TheVariants as walk;
@@ -12,7 +13,7 @@ ghost use Rattle.rg_verify.specs.Blocks as blocks;
 ghost use Rattle.rg_verify.specs.Blocks.{Inner, sign, block_told};
 ghost use Rattle.rg_raise.specs.Fronts.{Spans, TakesFirst};
 ghost use Rattle.rg_raise.specs.Telling.{given, MakesAs, IsKindSaid};
-ghost use Rattle.rg_blocks.specs.Blocks.{IsBlockSaid, IsWindowSaid, array_told};
+ghost use Rattle.rg_blocks.specs.Blocks.{AreSaid, IsBlockSaid, IsWindowSaid, array_told};
 
 use crate::ends::{behind_end, behind_leave, starts_at};
 use crate::parts::{entered, path_in, put_block, put_stmt};
@@ -481,30 +482,27 @@ fn kind_told(
     kind_by(source, program, types, depth, line, at, first, fronts)
 }
 
-// A block in which blocks stand so deep at most.
+// The statements of a block, by their numbers, and the address behind them.
 #[cycle(block)]
-fn raise_inner(
+fn raise_statements(
     source: &Source<'_>,
     program: &mut Program,
     types: &mut Vec<Ty>,
     depth: usize,
     at: usize,
-) -> Result<(Span, usize), Refusal>
+) -> Result<(Vec<u32>, usize), Refusal>
     ensures told { let g = given source.now in
-        MakesAs (IsBlockSaid source.now.body.in_method (length types.old.items)) program.old program.new
-        (block_told g depth types.old.items at) result }
+        MakesAs (AreSaid source.now.body.in_method (length types.old.items)) program.old
+        program.new
+        (blocks.statements g (block_told g depth) (suc (length g.ops)) types.old.items at) result }
     ensures grows { Extends program.old program.new }
-    ensures types { IfOk result (λ x. types.new.items ≡ types.old.items) }
+    ensures types { IfOk result (λ x.
+        (more : List Types) × (types.new.items ≡ types.old.items ++ more)) }
 {
-    if depth == 0 {
-        return Err(Refusal::NotRaised);
-    }
-    let inner = depth - 1;
-    let slots = types.len();
     let mut numbers = Vec::new(source.body.alloc);
     let mut end = at;
     while let Some(line) = starts_at(source.parts.code(), end) {
-        let (kind, behind) = kind_told(source, program, types, inner, line, end)?;
+        let (kind, behind) = kind_told(source, program, types, depth, line, end)?;
         let Ok(number) = put_stmt(program, line, kind.row) else {
             return Err(Refusal::Memory);
         };
@@ -519,15 +517,32 @@ fn raise_inner(
                     return Err(Refusal::Memory);
                 };
             }
-            After::Last => {
-                types.truncate(slots);
-                let Ok(span) = put_block(program, numbers.as_slice()) else {
-                    return Err(Refusal::Memory);
-                };
-                return Ok((span, end));
-            }
+            After::Last => return Ok((numbers, end)),
         }
     }
+    Ok((numbers, end))
+}
+
+// A block in which blocks stand so deep at most.
+#[cycle(block)]
+fn raise_inner(
+    source: &Source<'_>,
+    program: &mut Program,
+    types: &mut Vec<Ty>,
+    depth: usize,
+    at: usize,
+) -> Result<(Span, usize), Refusal>
+    ensures told { let g = given source.now in
+        MakesAs (IsBlockSaid source.now.body.in_method (length types.old.items)) program.old
+        program.new (block_told g depth types.old.items at) result }
+    ensures grows { Extends program.old program.new }
+    ensures types { IfOk result (λ x. types.new.items ≡ types.old.items) }
+{
+    if depth == 0 {
+        return Err(Refusal::NotRaised);
+    }
+    let slots = types.len();
+    let (numbers, end) = raise_statements(source, program, types, depth - 1, at)?;
     types.truncate(slots);
     let Ok(span) = put_block(program, numbers.as_slice()) else {
         return Err(Refusal::Memory);

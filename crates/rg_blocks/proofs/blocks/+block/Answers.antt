@@ -1,4 +1,4 @@
-use Rattle.std.proofs.Common.{◌≡◌, ◌==◌, ◌-◌, ◌+◌, ℕ, suc, List, [], ◌∷◌, length, refl, sym, ap, ◌∙◌, subst, Option, Some, None, Ok, Err, false, arith}
+use Rattle.std.proofs.Common.{◌≡◌, ◌==◌, ◌-◌, ◌+◌, ℕ, suc, List, [], ◌∷◌, take, length, refl, sym, ap, ◌∙◌, subst, Option, Some, None, Ok, Err, false, arith}
 use Rattle.std.proofs.lemmas.Bool.Decides.{nat_tests}
 use Rattle.std.proofs.lemmas.Result.{err_from_is_err_and}
 use Rattle.rg_base.specs.declared.words.Cap.TheVariants as cap
@@ -22,7 +22,7 @@ use Rattle.rg_tree.proofs.Adding.{extends-trans, means-later}
 use Rattle.rg_raise.proofs.Telling.{makes-behind, makes-some}
 use Rattle.rg_blocks.specs.Blocks.{IsBlockSaid, IsWindowSaid}
 use Rattle.rg_blocks.proofs.Put.{finds-path, finds-no-path}
-use Rattle.rg_blocks.proofs.Going.{Looping, looping-begins, loop-ends}
+use Rattle.rg_blocks.proofs.Going.{Looping, looping-begins}
 use Rattle.rg_blocks.proofs.BlockParts.{jumped-astray, window-astray, window-untyped, window-classless, window-open, kind-as, kind-unread, kind-many, block-none}
 use Rattle.rg_blocks.proofs.Exprs.{astray, jumped-made, jumped-goes, close-print, close-return, close-test, expr-uncleared, expr-closed, expr-array}
 use Rattle.rg_blocks.proofs.Exprs.{open-collect, kind-refused, kind-made}
@@ -30,7 +30,7 @@ use Rattle.rg_raise.proofs.FrontRows.{none-left, some-left}
 use Rattle.rg_blocks.proofs.Firsts.{first-none, first-expression, first-object, first-place}
 use Rattle.rg_blocks.proofs.BlockRows.{otherwise-made, tested-made, tested-goes, window-made, window-closed, open-made, open-closed, field-made, field-closed}
 use Rattle.rg_blocks.proofs.BlockRows.{field-unfound}
-use Rattle.rg_blocks.proofs.Turns.{turn-refused, turn-same, turn-more, turn-last, turn-smaller, block-so, block-made, shortened, under}
+use Rattle.rg_blocks.proofs.Turns.{turn-refused, turn-same, turn-more, turn-last, turn-smaller, statements-end, block-refused, block-made, shortened, under}
 use Rattle.rg_blocks.proofs.blocks.+block.Goals as goal
 
 -- an `if` and a loop
@@ -173,6 +173,13 @@ window-returns-clause-told b c =
     next c.in-Some.ty (sym c.in-Some.ensures) c.in-Some-bridge_class.class (sym c.in-Some-bridge_class.ensures)
     c.args.program.now c.raise_inner.new.program c.in_ok-block.block c.in_ok-block.behind c.in-Some-behind_leave.given c.in-Some-behind_leave.end
     made (sym ends)
+
+pub window-returns-clause-types : goal.window-returns-clause-types
+window-returns-clause-types b c =
+    let old = c.args.types.now.items in
+    let all = c.in_ok-block.ensures.types ∙ c.in-Ok.ensures.items in
+    c.truncate.ensures.items ∙ ap (λ (n : ℕ). take n c.raise_inner.new.types.items) c.len-slots.ensures
+    ∙ shortened old (ty.Ref cap.Mut c.in-Some-bridge_class.class ∷ []) c.raise_inner.new.types.items all
 
 -- the window of a field
 
@@ -454,6 +461,84 @@ kind_told-returns-clause-told b c =
 pub kind_told-returns-clause-grows : goal.kind_told-returns-clause-grows
 kind_told-returns-clause-grows b c = extends-trans c.in_ok-fronts.ensures.grows c.kind_by.ensures.grows
 
+-- the statements of a block
+
+pub raise_statements-loop-line-init : goal.raise_statements-loop-line-init
+raise_statements-loop-line-init b c =
+    let t = c.args.program.now in
+    let types = c.args.types.now.items in
+    let g = given c.args.source.now in
+    let inner = block_told g c.args.depth in
+    subst (λ (ns : List ℕ). Looping c.args.source.now.body.in_method g inner t t types types ns c.args.at c.args.at) (sym c.new-numbers.ensures.items)
+    (looping-begins c.args.source.now.body.in_method g inner t types c.args.at)
+
+pub raise_statements-put_stmt-requires : goal.raise_statements-put_stmt-requires
+raise_statements-put_stmt-requires b c =
+    let m = c.args.source.now.body.in_method in
+    let g = given c.args.source.now in
+    let types = c.loop-line.types.items in
+    let (k, told, grown, is) = makes-some (IsKindSaid m (length types)) c.loop-line.program c.kind_told.new.program
+    (kind_told g (block_told g c.args.depth) types c.in-Some.line c.loop-line.end) c.in_ok-kind.kind c.in_ok-kind.behind
+    c.in_ok-kind.ensures.told in
+    means-there is.0
+
+pub raise_statements-returns-in_err-kind-clause-told : goal.raise_statements-returns-in_err-kind-clause-told
+raise_statements-returns-in_err-kind-clause-told b c =
+    let p = err_from_is_err_and c.from_residual.result c.from_residual.ensures.1 in
+    let g = given c.args.source.now in
+    let begins = rw c.code.ensures at c.in-Some.ensures.told in
+    rw (p.1, p.2) (turn-refused c.args.source.now.body.in_method g c.args.depth c.args.program.now c.loop-line.program c.args.types.now.items
+    c.loop-line.types.items c.loop-line.numbers.items c.args.at c.loop-line.end c.in-Some.line c.loop-line.invariant (sym begins)
+    c.kind_told.new.program c.in_err-kind.field-0.0 c.in_err-kind.ensures.told)
+
+pub raise_statements-returns-in_err-kind-clause-grows : goal.raise_statements-returns-in_err-kind-clause-grows
+raise_statements-returns-in_err-kind-clause-grows b c = extends-trans c.loop-line.invariant.grown c.in_err-kind.ensures.grows
+
+pub raise_statements-returns-in_default-put_stmt-clause-grows : goal.raise_statements-returns-in_default-put_stmt-clause-grows
+raise_statements-returns-in_default-put_stmt-clause-grows b c =
+    extends-trans c.loop-line.invariant.grown (extends-trans c.in_ok-kind.ensures.grows c.in_default-put_stmt.ensures.grows)
+
+pub raise_statements-returns-in_default-push-clause-grows : goal.raise_statements-returns-in_default-push-clause-grows
+raise_statements-returns-in_default-push-clause-grows b c =
+    extends-trans c.loop-line.invariant.grown (extends-trans c.in_ok-kind.ensures.grows c.in-Ok.ensures.grows)
+
+pub raise_statements-loop-line-preserved-in-Same : goal.raise_statements-loop-line-preserved-in-Same
+raise_statements-loop-line-preserved-in-Same b c =
+    let g = given c.args.source.now in
+    let begins = rw c.code.ensures at c.in-Some.ensures.told in
+    rw (c.in-Ok-push.ensures.items, c.in_ok-kind.ensures.types) (turn-same c.args.source.now.body.in_method g c.args.depth c.args.program.now
+    c.loop-line.program c.args.types.now.items c.loop-line.types.items c.loop-line.numbers.items c.args.at c.loop-line.end c.in-Some.line
+    c.loop-line.invariant (sym begins) c.kind_told.new.program c.put_stmt.new.program c.in_ok-kind.kind c.in_ok-kind.behind c.in-Ok.number
+    c.in_ok-kind.ensures.told c.in-Ok.ensures.adds c.in-Same.is)
+
+pub raise_statements-loop-line-preserved-in-More : goal.raise_statements-loop-line-preserved-in-More
+raise_statements-loop-line-preserved-in-More b c =
+    let g = given c.args.source.now in
+    let begins = rw c.code.ensures at c.in-Some.ensures.told in
+    rw (c.in-Ok-push-in-More.ensures.items, c.in-Ok-push.ensures.items, c.in_ok-kind.ensures.types) (turn-more c.args.source.now.body.in_method g
+    c.args.depth c.args.program.now c.loop-line.program c.args.types.now.items c.loop-line.types.items c.loop-line.numbers.items c.args.at
+    c.loop-line.end c.in-Some.line c.loop-line.invariant (sym begins) c.kind_told.new.program c.put_stmt.new.program c.in_ok-kind.kind
+    c.in_ok-kind.behind c.in-Ok.number c.in_ok-kind.ensures.told c.in-Ok.ensures.adds c.in-More.ty c.in-More.is)
+
+pub raise_statements-returns-in-Last-clause-told : goal.raise_statements-returns-in-Last-clause-told
+raise_statements-returns-in-Last-clause-told b c =
+    let g = given c.args.source.now in
+    let begins = rw c.code.ensures at c.in-Some.ensures.told in
+    turn-last c.args.source.now.body.in_method g c.args.depth c.args.program.now c.loop-line.program c.args.types.now.items c.loop-line.types.items
+    c.loop-line.numbers.items c.args.at c.loop-line.end c.in-Some.line c.loop-line.invariant (sym begins) c.kind_told.new.program
+    c.put_stmt.new.program c.in_ok-kind.kind c.in_ok-kind.behind c.in-Ok.number c.in_ok-kind.ensures.told c.in-Ok.ensures.adds c.push.new.self
+    c.in-Ok-push.ensures.items c.in-Last.is
+
+pub raise_statements-returns-clause-told : goal.raise_statements-returns-clause-told
+raise_statements-returns-clause-told b c =
+    let g = given c.args.source.now in
+    let none = rw c.code.ensures at c.in_default.ensures.told in
+    statements-end c.args.source.now.body.in_method g c.args.depth c.args.program.now c.loop-line.program c.args.types.now.items
+    c.loop-line.types.items c.loop-line.numbers c.args.at c.loop-line.end c.loop-line.invariant (sym none)
+
+pub raise_statements-returns-clause-types : goal.raise_statements-returns-clause-types
+raise_statements-returns-clause-types b c = (c.loop-line.invariant.more, c.loop-line.invariant.types_are)
+
 -- blocks
 
 pub raise_inner-returns-then-depth-eq0-clause-told : goal.raise_inner-returns-then-depth-eq0-clause-told
@@ -461,108 +546,28 @@ raise_inner-returns-then-depth-eq0-clause-told b c =
     block-none (given c.args.source.now) c.args.depth c.args.types.now.items c.args.at
     (let z = c.if-depth-eq0.true in grind (arith, nat_tests))
 
-pub raise_inner-loop-line-init : goal.raise_inner-loop-line-init
-raise_inner-loop-line-init b c =
-    let t = c.args.program.now in
-    let types = c.args.types.now.items in
-    let g = given c.args.source.now in
-    let inner = block_told g (c.args.depth - 1) in
-    subst (λ (ns : List ℕ). Looping c.args.source.now.body.in_method g inner t t types types ns c.args.at c.args.at) (sym c.new-numbers.ensures.items)
-    (looping-begins c.args.source.now.body.in_method g inner t types c.args.at)
-
-pub raise_inner-kind_told-requires : goal.raise_inner-kind_told-requires
-raise_inner-kind_told-requires b c =
-    let d = c.decreases in
-    let other = c.if-depth-eq0.false in
-    (grind (arith, nat_tests), c.in-Some.ensures.next)
-
-pub raise_inner-put_stmt-requires : goal.raise_inner-put_stmt-requires
-raise_inner-put_stmt-requires b c =
-    let m = c.args.source.now.body.in_method in
-    let g = given c.args.source.now in
-    let types = c.loop-line.types.items in
-    let (k, told, grown, is) = makes-some (IsKindSaid m (length types)) c.loop-line.program c.kind_told.new.program
-    (kind_told g (block_told g (c.args.depth - 1)) types c.in-Some.line c.loop-line.end) c.in_ok-kind.kind c.in_ok-kind.behind
-    c.in_ok-kind.ensures.told in
-    means-there is.0
-
-pub raise_inner-returns-in_err-kind-clause-told : goal.raise_inner-returns-in_err-kind-clause-told
-raise_inner-returns-in_err-kind-clause-told b c =
+pub raise_inner-returns-in_err-numbers-clause-told : goal.raise_inner-returns-in_err-numbers-clause-told
+raise_inner-returns-in_err-numbers-clause-told b c =
     let p = err_from_is_err_and c.from_residual.result c.from_residual.ensures.1 in
-    let m = c.args.source.now.body.in_method in
-    let g = given c.args.source.now in
-    let before = c.args.types.now.items in
-    let inner = c.args.depth - 1 in
-    let begins = rw c.code.ensures at c.in-Some.ensures.told in
     let deep = under c.args.depth (λ z. let other = c.if-depth-eq0.false in grind (arith, nat_tests)) in
-    rw (p.1, p.2) (block-so g c.args.depth inner before c.args.at deep m (length before) c.args.program.now c.kind_told.new.program
-    (Err c.in_err-kind.field-0.0) (turn-refused m g inner c.args.program.now c.loop-line.program before c.loop-line.types.items
-    c.loop-line.numbers.items c.args.at c.loop-line.end c.in-Some.line c.loop-line.invariant (sym begins) c.kind_told.new.program
-    c.in_err-kind.field-0.0 c.in_err-kind.ensures.told))
-
-pub raise_inner-returns-in_err-kind-clause-grows : goal.raise_inner-returns-in_err-kind-clause-grows
-raise_inner-returns-in_err-kind-clause-grows b c = extends-trans c.loop-line.invariant.grown c.in_err-kind.ensures.grows
-
-pub raise_inner-returns-in_default-put_stmt-clause-grows : goal.raise_inner-returns-in_default-put_stmt-clause-grows
-raise_inner-returns-in_default-put_stmt-clause-grows b c =
-    extends-trans c.loop-line.invariant.grown (extends-trans c.in_ok-kind.ensures.grows c.in_default-put_stmt.ensures.grows)
-
-pub raise_inner-returns-in_default-push-clause-grows : goal.raise_inner-returns-in_default-push-clause-grows
-raise_inner-returns-in_default-push-clause-grows b c =
-    extends-trans c.loop-line.invariant.grown (extends-trans c.in_ok-kind.ensures.grows c.in-Ok.ensures.grows)
-
-pub raise_inner-loop-line-preserved-in-Same : goal.raise_inner-loop-line-preserved-in-Same
-raise_inner-loop-line-preserved-in-Same b c =
-    let g = given c.args.source.now in
-    let begins = rw c.code.ensures at c.in-Some.ensures.told in
-    rw (c.in-Ok-push.ensures.items, c.in_ok-kind.ensures.types) (turn-same c.args.source.now.body.in_method g (c.args.depth - 1) c.args.program.now
-    c.loop-line.program c.args.types.now.items c.loop-line.types.items c.loop-line.numbers.items c.args.at c.loop-line.end c.in-Some.line
-    c.loop-line.invariant (sym begins) c.kind_told.new.program c.put_stmt.new.program c.in_ok-kind.kind c.in_ok-kind.behind c.in-Ok.number
-    c.in_ok-kind.ensures.told c.in-Ok.ensures.adds c.in-Same.is)
-
-pub raise_inner-loop-line-preserved-in-More : goal.raise_inner-loop-line-preserved-in-More
-raise_inner-loop-line-preserved-in-More b c =
-    let g = given c.args.source.now in
-    let begins = rw c.code.ensures at c.in-Some.ensures.told in
-    rw (c.in-Ok-push-in-More.ensures.items, c.in-Ok-push.ensures.items, c.in_ok-kind.ensures.types) (turn-more c.args.source.now.body.in_method g
-    (c.args.depth - 1) c.args.program.now c.loop-line.program c.args.types.now.items c.loop-line.types.items c.loop-line.numbers.items c.args.at
-    c.loop-line.end c.in-Some.line c.loop-line.invariant (sym begins) c.kind_told.new.program c.put_stmt.new.program c.in_ok-kind.kind
-    c.in_ok-kind.behind c.in-Ok.number c.in_ok-kind.ensures.told c.in-Ok.ensures.adds c.in-More.ty c.in-More.is)
-
-pub raise_inner-returns-in-Last-clause-told : goal.raise_inner-returns-in-Last-clause-told
-raise_inner-returns-in-Last-clause-told b c =
-    let m = c.args.source.now.body.in_method in
-    let g = given c.args.source.now in
-    let before = c.args.types.now.items in
-    let inner = c.args.depth - 1 in
-    let begins = rw c.code.ensures at c.in-Some.ensures.told in
-    let deep = under c.args.depth (λ z. let other = c.if-depth-eq0.false in grind (arith, nat_tests)) in
-    let block = rw (c.as_slice.ensures.value, c.in-Ok-push.ensures.items) at c.in-Ok-put_block.ensures.adds in
-    block-so g c.args.depth inner before c.args.at deep m (length before) c.args.program.now c.put_block.new.program
-    (Ok (c.in-Ok-put_block.span, c.in_ok-kind.behind)) (turn-last m g inner c.args.program.now c.loop-line.program before c.loop-line.types.items
-    c.loop-line.numbers.items c.args.at c.loop-line.end c.in-Some.line c.loop-line.invariant (sym begins) c.kind_told.new.program
-    c.put_stmt.new.program c.in_ok-kind.kind c.in_ok-kind.behind c.in-Ok.number c.in_ok-kind.ensures.told c.in-Ok.ensures.adds c.put_block.new.program
-    c.in-Ok-put_block.span c.in-Last.is block)
+    rw (p.1, p.2) (block-refused c.args.source.now.body.in_method (given c.args.source.now) c.args.depth (c.args.depth - 1) c.args.types.now.items
+    c.args.at deep c.args.program.now c.raise_statements.new.program c.in_err-numbers.field-0.0 c.in_err-numbers.ensures.told)
 
 pub raise_inner-returns-clause-told : goal.raise_inner-returns-clause-told
 raise_inner-returns-clause-told b c =
-    let m = c.args.source.now.body.in_method in
-    let g = given c.args.source.now in
-    let before = c.args.types.now.items in
-    let inner = c.args.depth - 1 in
-    let none = rw c.code.ensures at c.in_default.ensures.told in
     let deep = under c.args.depth (λ z. let other = c.if-depth-eq0.false in grind (arith, nat_tests)) in
-    let l = c.loop-line.invariant in
-    let block = rw c.as_slice.ensures.value at c.in-Ok-put_block.ensures.adds in
-    block-so g c.args.depth inner before c.args.at deep m (length before) c.args.program.now c.put_block.new.program
-    (Ok (c.in-Ok-put_block.span, c.loop-line.end)) (block-made m (length before) c.args.program.now c.loop-line.program c.put_block.new.program
-    c.loop-line.numbers.items c.loop-line.types.items _ _ l.going c.loop-line.end c.in-Ok-put_block.span l.grown
-    (loop-ends g (block_told g inner) l.left c.loop-line.types.items c.loop-line.end (sym none)) block)
+    block-made c.args.source.now.body.in_method (given c.args.source.now) c.args.depth (c.args.depth - 1) c.args.types.now.items c.args.at deep
+    c.args.program.now c.raise_statements.new.program c.put_block.new.program c.in_ok-numbers.numbers c.in-Ok.span c.in_ok-numbers.end
+    c.in_ok-numbers.ensures.told (rw c.as_slice.ensures.value at c.in-Ok.ensures.adds)
 
 pub raise_inner-returns-clause-types : goal.raise_inner-returns-clause-types
 raise_inner-returns-clause-types b c =
-    c.truncate.ensures.items ∙ ap (λ (n : ℕ). take n c.loop-line.types.items) c.len-slots.ensures
-    ∙ shortened c.args.types.now.items c.loop-line.invariant.more c.loop-line.types.items c.loop-line.invariant.types_are
+    let (more, all) = c.in_ok-numbers.ensures.types in
+    c.truncate.ensures.items ∙ ap (λ (n : ℕ). take n c.raise_statements.new.types.items) c.len-slots.ensures
+    ∙ shortened c.args.types.now.items more c.raise_statements.new.types.items all
+
+pub raise_inner-returns-in_default-clause-grows : goal.raise_inner-returns-in_default-clause-grows
+raise_inner-returns-in_default-clause-grows b c = extends-trans c.in_ok-numbers.ensures.grows c.in_default.ensures.grows
 
 pub raise_inner-returns-clause-grows : goal.raise_inner-returns-clause-grows
-raise_inner-returns-clause-grows b c = extends-trans c.loop-line.invariant.grown c.in-Ok-put_block.ensures.grows
+raise_inner-returns-clause-grows b c = extends-trans c.in_ok-numbers.ensures.grows c.in-Ok.ensures.grows

@@ -43,10 +43,13 @@ decreases-kind_by l = 16 * l.depth + 9
 abbrev pub decreases-raise_inner : goal.decreases-raise_inner
 decreases-raise_inner l = 16 * l.depth
 
-abbrev pub invariant-raise_inner-loop-line : goal.invariant-raise_inner-loop-line
-invariant-raise_inner-loop-line l =
-    let g = given l.source in
-    Looping l.source.body.in_method g (block_told g l.inner) l.fn.program l.program l.fn.types.items l.types.items l.numbers.items l.at l.end
+abbrev pub decreases-raise_statements : goal.decreases-raise_statements
+decreases-raise_statements l = 16 * l.depth + 11
 
-abbrev pub decreases-raise_inner-loop-line : goal.decreases-raise_inner-loop-line
-decreases-raise_inner-loop-line l = length l.source.parts.now.code.ops - l.end
+abbrev pub invariant-raise_statements-loop-line : goal.invariant-raise_statements-loop-line
+invariant-raise_statements-loop-line l =
+    let g = given l.source in
+    Looping l.source.body.in_method g (block_told g l.depth) l.fn.program l.program l.fn.types.items l.types.items l.numbers.items l.at l.end
+
+abbrev pub decreases-raise_statements-loop-line : goal.decreases-raise_statements-loop-line
+decreases-raise_statements-loop-line l = length l.source.parts.now.code.ops - l.end
