@@ -1,5 +1,5 @@
 -- Statements, blocks and paths that were put into rows.
-use Rattle.std.proofs.Common.{◌≡◌, ℕ, ◌<◌, Bool as Truth, List, [], ◌∷◌, ◌++◌, map, length, Option, Some, None, refl, sym, ◌∙◌, ap, subst, arith}
+use Rattle.std.proofs.Common.{◌≡◌, ℕ, Bool as Truth, List, [], ◌∷◌, ◌++◌, map, length, Option, Some, None, refl, sym, ◌∙◌, ap, subst}
 use Rattle.rg_base.proofs.Callers.Lists.{below}
 use Rattle.rg_tree.specs.declared.rows.Span.{Span}
 use Rattle.rg_tree.specs.declared.rows.Path as rows
@@ -13,9 +13,9 @@ use Rattle.rg_tree.specs.Rows.RowTrees.{path_of, expr_at, expr_of, stmt_at, bloc
 use Rattle.rg_tree.specs.Rows.RowsExist.{Holds, IsPathIn, IsExprIn, IsStmtNumber}
 use Rattle.rg_tree.specs.Keeps.{Keeps}
 use Rattle.rg_tree.specs.Adds.{Extends, Means, Adds}
-use Rattle.rg_tree.proofs.Callers.{IsAbove-Keeps, stmt_at-keeps}
+use Rattle.rg_tree.proofs.Callers.{IsAbove-Keeps}
 use Rattle.rg_tree.proofs.Grows.{path_of-grows, IsPathIn-grows}
-use Rattle.rg_tree.proofs.Adding.{extends-by, means-later}
+use Rattle.rg_tree.proofs.Adding.{stmt-means, extends-by, means-later}
 use Rattle.rg_verify.specs.Raised.{Raised, number, boolean, nil, path, is_nil, size, element, neg, not, binary, named, path_named}
 use Rattle.rg_verify.specs.Rows.{IsTree}
 use Rattle.rg_verify.specs.Blocks.{path_in}
@@ -41,15 +41,8 @@ module _ {W B : Type 0} {at : Tables → W → B} {exists : Tables → W → Typ
 -- a statement that was put last
 pub stmt-put : {u v : Tables} (n : ℕ) → Keeps u v → program_of v ≡ program_of u → (r : StmtRow) {a : Stmt} → n ≡ length u.stmts
     → stmt_at v n ≡ a → v ≡ record u { stmts = u.stmts ++ r ∷ [] } → Adds stmt_at IsStmtNumber u v n a
-stmt-put {u} {v} n k p r l e w =
-    let lt = below u.stmts v.stmts r n (ap (λ (x : Tables). x.stmts) w) l in
-    record {
-      extends = extends-by k p;
-      means = record {
-        is = λ x j. stmt_at-keeps j n lt ∙ e;
-        there = λ x j. omega (arith, lt, (IsAbove-Keeps j).stmts);
-      };
-    }
+stmt-put {u} {v} n k p r {a} l e w =
+    record { extends = extends-by k p; means = stmt-means n a e (below u.stmts v.stmts r n (ap (λ (x : Tables). x.stmts) w) l) }
 
 -- a block
 
@@ -95,6 +88,36 @@ path-found t m row r p e is tree_is inside means =
       there = λ w k. IsPathIn-grows (IsAbove-Keeps k) p there;
     } in
     subst (λ o. FindsPath t m o (Some p)) (sym found) path
+
+-- a row of another kind stands for no path
+row-of-path : (t : Tables) (r : ExprRow) (q : tree.Path) → expr_of t r ≡ tree.path q → ((p : rows.Path) → r ≡ expr_row.Path p → ⊥) → ⊥
+row-of-path t (expr_row.Path p) q e other = other p refl
+row-of-path t (expr_row.Int z) q e other = cc
+row-of-path t (expr_row.Bool b) q e other = cc
+row-of-path t expr_row.Nil q e other = cc
+row-of-path t (expr_row.IsNil p) q e other = cc
+row-of-path t (expr_row.Neg a) q e other = cc
+row-of-path t (expr_row.Not a) q e other = cc
+row-of-path t (expr_row.Binary o a b) q e other = cc
+row-of-path t (expr_row.Size p) q e other = cc
+row-of-path t (expr_row.At p a) q e other = cc
+
+pub path-lost : (t : Tables) (m : Truth) (row : ℕ) (r : ExprRow) (e : Raised) → ((p : rows.Path) → r ≡ expr_row.Path p → ⊥)
+    → expr_at t row ≡ expr_of t r → IsTree t row (named m e) → path_in e ≡ None
+path-lost t m row r (path s ks) other tree_is means = absurd (row-of-path t r (path_named m s ks) (sym tree_is ∙ means-now means) other)
+path-lost t m row r (number z) other tree_is means = refl
+path-lost t m row r (boolean b) other tree_is means = refl
+path-lost t m row r nil other tree_is means = refl
+path-lost t m row r (is_nil s ks) other tree_is means = refl
+path-lost t m row r (size s ks) other tree_is means = refl
+path-lost t m row r (element s ks x) other tree_is means = refl
+path-lost t m row r (neg a) other tree_is means = refl
+path-lost t m row r (not a) other tree_is means = refl
+path-lost t m row r (binary o a b) other tree_is means = refl
+
+pub no-path : (t : Tables) (m : Truth) (o : Option (ℕ × List ℕ)) → o ≡ None → FindsPath t m o None
+no-path t m None e = refl
+no-path t m (Some q) e = absurd cc
 
 pub finds-path : (t : Tables) (m : Truth) (o : Option (ℕ × List ℕ)) (p : rows.Path) → FindsPath t m o (Some p)
     → (q : ℕ × List ℕ) × (o ≡ Some q) × IsPathTo t m p q.0 q.1

@@ -115,10 +115,10 @@ shortened before more types e = ap (take (length before)) e ∙ take-append_seam
 
 module _ (m : Truth) (g : Given) (depth : ℕ) (old t : Tables) (before types : List Ty) (numbers : List ℕ) (at end line : ℕ)
     (l : Looping m g (block_told g depth) old t before types numbers at end) (begins : starts g.ops end ≡ Some line) where
-  abbrev wanted : Told Block
+  abbrev pub wanted : Told Block
   wanted = statements g (block_told g depth) (suc (length g.ops)) before at
 
-  abbrev left : Told Block
+  abbrev pub left : Told Block
   left = statements g (block_told g depth) (suc l.left) types end
 
   -- as many turns are left as instructions
