@@ -52,25 +52,25 @@ module _ (m : Truth) (n : ℕ) (t : Tables) (test : ℕ) (e : Raised) (is : IsTr
       refl,
     )
 
-    pub branch-two : (u : Tables) (no : Span) (c : Block) → Extends t u → IsBlockSaid m n u no c
-        → IsKindSaid m n u (record { row = kind_row.If test yes (Some no); after = after.Same }) (branch e b (otherwise c))
-    branch-two u no c g other = (
+    pub branch-two : (u : Tables) (second : Span) (c : Block) → Extends t u → IsBlockSaid m n u second c
+        → IsKindSaid m n u (record { row = kind_row.If test yes (Some second); after = after.Same }) (branch e b (otherwise c))
+    branch-two u second c g other = (
       means-three {at = kind_of} {exists = IsKindRow} (λ x y z. kind_row.If x y (Some z)) (λ x y z. tree.branch x y (tree.otherwise z))
           (λ w x y z. refl) (λ w x y z i j k. (i, j, k)) (means-later is g) (means-later block g) other,
       refl,
     )
 
 module _ (m : Truth) (g : Given) (inner : Inner) (types : List Ty) (line : ℕ) where
-  pub otherwise-made : (t u : Tables) (test : ℕ) (e : Raised) (yes no : Span) (b : Block) (to at mid end : ℕ) → IsTree t test (named m e)
-      → IsBlockSaid m (length types) t yes b → MakesAs (IsBlockSaid m (length types)) t u (inner types at) (Ok (no, mid))
+  pub otherwise-made : (t u : Tables) (test : ℕ) (e : Raised) (first second : Span) (b : Block) (to at mid end : ℕ) → IsTree t test (named m e)
+      → IsBlockSaid m (length types) t first b → MakesAs (IsBlockSaid m (length types)) t u (inner types at) (Ok (second, mid))
       → ended end_of g.ops line (length types) mid ≡ Some end → to ≡ end
       → MakesAs (IsKindSaid m (length types)) t u (otherwise_told g inner types line e b to at)
-      (Ok (record { row = kind_row.If test yes (Some no); after = after.Same }, end))
-  otherwise-made t u test e yes no b to at mid end is block made ends same =
-      let (c, told, grown, other) = makes-some (IsBlockSaid m (length types)) t u (inner types at) no mid made in
+      (Ok (record { row = kind_row.If test first (Some second); after = after.Same }, end))
+  otherwise-made t u test e first second b to at mid end is block made ends same =
+      let (c, told, grown, other) = makes-some (IsBlockSaid m (length types)) t u (inner types at) second mid made in
       makes-so (IsKindSaid m (length types)) t u (otherwise_told g inner types line e b to at) _ (branch e b (otherwise c)) end end
       (otherwise-so g inner types line e b to at c mid told end ends same) refl grown
-      (branch-two m (length types) t test e is yes b block u no c grown other)
+      (branch-two m (length types) t test e is first b block u second c grown other)
 
   module _ (start : ℕ) (t u : Tables) (test : ℕ) (e : Raised) (yes : Span) (fails at mid end : ℕ) (is : IsTree t test (named m e))
       (made : MakesAs (IsBlockSaid m (length types)) t u (inner types at) (Ok (yes, mid))) (ends : ended end_of g.ops line (length types) mid ≡ Some end) where
@@ -180,14 +180,12 @@ pub enters-made : (m : Truth) (n : ℕ) (t u v : Tables) (to : rows.Path) (name 
     (x : ℕ × Block × Option ℕ) → IsPath t to q → IsWindowSaid m n t w x → Adds name_at IsNameIn t u name (variable_name n)
     → Adds variable_of IsVariableIn u v giving (option_map variable_name w.given)
     → Enters m n t v q x (record { row = kind_row.Enter to name w.block giving; after = after.Same })
-enters-made m n t u v to name giving w q x path is named given =
-    let later = extends-trans named.extends given.extends in
+enters-made m n t u v to name giving w q x path is put given =
+    let later = extends-trans put.extends given.extends in
     let gives : Means variable_of IsVariableIn v giving (option_map variable_name x.2) =
     subst (λ (o : Option ℕ). Means variable_of IsVariableIn v giving (option_map variable_name o)) is.1 given.means in (
       later,
-      (
-        means-four {at = kind_of} {exists = IsKindRow} kind_row.Enter tree.enter (λ w p y z o. refl) (λ w p y z o i j k l. (i, j, k, l))
-            (means-later path later) (means-later named.means given.extends) (means-later is.0 later) gives,
-        refl,
-      ),
+      means-four {at = kind_of} {exists = IsKindRow} kind_row.Enter tree.enter (λ w p y z o. refl) (λ w p y z o i j k l. (i, j, k, l))
+          (means-later path later) (means-later put.means given.extends) (means-later is.0 later) gives,
+      refl,
     )

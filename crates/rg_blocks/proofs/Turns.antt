@@ -29,7 +29,7 @@ use Rattle.rg_blocks.specs.Blocks.{AreSaid, IsBlockSaid, AddsBlock, block_with}
 use Rattle.rg_raise.proofs.Rows.{means-now}
 use Rattle.rg_raise.proofs.Telling.{bind-none, makes-some, makes-so, refused}
 use Rattle.rg_blocks.proofs.Going.{Going, going-later, going-on, going-ends, loop-ends, loop-refused, loop-last, loop-more, behind-last, behind-same}
-use Rattle.rg_blocks.proofs.Going.{behind-more, Looping, looping-ends}
+use Rattle.rg_blocks.proofs.Going.{behind-more, Looping}
 
 -- a statement has an instruction at least: its mark
 marked : (types : List Ty) (at line : ℕ) (k : Kind) → 0 < length (kind_ops types at line k)

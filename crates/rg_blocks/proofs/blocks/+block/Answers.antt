@@ -8,6 +8,7 @@ use Rattle.rg_tree.specs.declared.rows.Right.TheVariants as right_row
 use Rattle.rg_tree.specs.Tree as tree
 use Rattle.rg_tree.specs.Rows.RowTrees.{right_of}
 use Rattle.rg_tree.specs.Rows.RowsExist.{IsRightIn}
+use Rattle.rg_code.specs.Code.{Code}
 use Rattle.rg_verify.specs.declared.signs.Close.{Close}
 use Rattle.rg_verify.specs.declared.signs.Open.{Open}
 use Rattle.rg_verify.specs.declared.signs.Walk.{Walk}
@@ -15,7 +16,7 @@ use Rattle.rg_verify.specs.Raised.{Raised, Front, expression}
 use Rattle.rg_verify.specs.Statements.{Block, Kind, value, types_inside}
 use Rattle.rg_verify.specs.Signs.{open_of, walk_of}
 use Rattle.rg_verify.specs.Blocks.{Told, sign, cleared, window, path_in, fronts_at, close_by, expr_by, open_by, kind_by, kind_told, block_told}
-use Rattle.rg_raise.specs.Fronts.{Spans, TakesFirst}
+use Rattle.rg_raise.specs.Fronts.{Spans, TakesFirst, MakesFronts}
 use Rattle.rg_raise.specs.Telling.{given, MakesAs, IsKindSaid}
 use Rattle.rg_raise.proofs.Rows.{means-one, means-there, names-none}
 use Rattle.rg_tree.proofs.Adding.{extends-trans, means-later}
@@ -39,7 +40,8 @@ pub otherwise_told-returns-clause-told : goal.otherwise_told-returns-clause-told
 otherwise_told-returns-clause-told b c e k is block =
     let m = c.args.source.now.body.in_method in
     let g = given c.args.source.now in
-    let ends = rw (c.code.ensures, c.len-slots.ensures) at c.in-Some.ensures in
+    let n : c.len-slots.result ≡ length c.args.types.now.items = omega (arith, c.len-slots.ensures) in
+    let ends = rw (c.code.ensures, n) at c.in-Some.ensures in
     let same : c.args.to ≡ c.in-Some.end = let z = c.if-to-end.false in grind (arith, nat_tests) in
     otherwise-made m g (block_told g c.args.depth) c.args.types.now.items c.args.line c.args.program.now c.raise_inner.new.program c.args.test e
     c.args.yes c.in_ok-no.no k c.args.to c.args.at c.in_ok-no.behind c.in-Some.end is block c.in_ok-no.ensures.told (sym ends) same
@@ -48,7 +50,8 @@ pub tested-returns-then-fails-end-clause-told : goal.tested-returns-then-fails-e
 tested-returns-then-fails-end-clause-told b c e is =
     let m = c.args.source.now.body.in_method in
     let g = given c.args.source.now in
-    let ends = rw (c.code.ensures, c.len-slots.ensures) at c.in-Some.ensures in
+    let n : c.len-slots.result ≡ length c.args.types.now.items = omega (arith, c.len-slots.ensures) in
+    let ends = rw (c.code.ensures, n) at c.in-Some.ensures in
     tested-made m g (block_told g c.args.depth) c.args.types.now.items c.args.line c.args.start c.args.program.now c.raise_inner.new.program c.args.test e
     c.in_ok-yes.yes c.args.fails c.args.at c.in_ok-yes.behind c.in-Some.end is c.in_ok-yes.ensures.told (sym ends) c.if-fails-end.true
 
@@ -57,7 +60,8 @@ tested-returns-clause-told b c e is =
     let t = c.args.program.now in
     let m = c.args.source.now.body.in_method in
     let g = given c.args.source.now in
-    let ends = rw (c.code.ensures, c.len-slots.ensures) at c.in-Some.ensures in
+    let n : c.len-slots.result ≡ length c.args.types.now.items = omega (arith, c.len-slots.ensures) in
+    let ends = rw (c.code.ensures, n) at c.in-Some.ensures in
     let goes = rw c.in_ok-yes.ensures.types at c.jumped.ensures.told in
     tested-goes m g (block_told g c.args.depth) c.args.types.now.items c.args.line c.args.start t c.raise_inner.new.program c.args.test e
     c.in_ok-yes.yes c.args.fails c.args.at c.in_ok-yes.behind c.in-Some.end is c.in_ok-yes.ensures.told (sym ends) c.jumped.new.program c.jumped.result
@@ -158,7 +162,9 @@ window-returns-in_err-block-clause-told b c =
     let p = err_from_is_err_and c.from_residual.result c.from_residual.ensures.1 in
     let g = given c.args.source.now in
     let next : c.args.bridge ≡ length c.args.types.now.items = let z = c.if-bridge-slots.false in let n = c.len-slots.ensures in grind (arith, nat_tests) in
-    let made = rw c.in-Ok.ensures.items at c.in_err-block.ensures.told in
+    let made = subst (λ (ts : List Ty). MakesAs (IsBlockSaid c.args.source.now.body.in_method (length ts)) c.args.program.now
+    c.raise_inner.new.program (block_told g c.args.depth ts c.args.at) (Err c.in_err-block.field-0.0)) c.in-Ok.ensures.items
+    c.in_err-block.ensures.told in
     rw (p.1, p.2) (window-closed c.args.source.now.body.in_method g (block_told g c.args.depth) c.args.types.now.items c.args.line c.args.bridge c.args.at next
     c.in-Some.ty (sym c.in-Some.ensures) c.in-Some-bridge_class.class (sym c.in-Some-bridge_class.ensures) c.args.program.now
     c.raise_inner.new.program c.in_err-block.field-0.0 made)
@@ -166,7 +172,8 @@ window-returns-in_err-block-clause-told b c =
 pub window-returns-clause-told : goal.window-returns-clause-told
 window-returns-clause-told b c =
     let g = given c.args.source.now in
-    let ends = rw (c.code.ensures, c.len-slots.ensures) at c.in-Some-behind_leave.ensures in
+    let n : c.len-slots.result ≡ length c.args.types.now.items = omega (arith, c.len-slots.ensures) in
+    let ends = rw (c.code.ensures, n) at c.in-Some-behind_leave.ensures in
     let next : c.args.bridge ≡ length c.args.types.now.items = let z = c.if-bridge-slots.false in let n = c.len-slots.ensures in grind (arith, nat_tests) in
     let made = rw c.in-Ok.ensures.items at c.in_ok-block.ensures.told in
     window-made c.args.source.now.body.in_method g (block_told g c.args.depth) c.args.types.now.items c.args.line c.args.bridge c.args.at
@@ -176,9 +183,10 @@ window-returns-clause-told b c =
 
 pub window-returns-clause-types : goal.window-returns-clause-types
 window-returns-clause-types b c =
+    let n : c.len-slots.result ≡ length c.args.types.now.items = omega (arith, c.len-slots.ensures) in
     let old = c.args.types.now.items in
     let all = c.in_ok-block.ensures.types ∙ c.in-Ok.ensures.items in
-    c.truncate.ensures.items ∙ ap (λ (n : ℕ). take n c.raise_inner.new.types.items) c.len-slots.ensures
+    c.truncate.ensures.items ∙ ap (λ (k : ℕ). take k c.raise_inner.new.types.items) n
     ∙ shortened old (ty.Ref cap.Mut c.in-Some-bridge_class.class ∷ []) c.raise_inner.new.types.items all
 
 -- the window of a field
@@ -364,7 +372,7 @@ kind_by-returns-then-len-ne0-clause-told b c fs is =
     let types = c.args.types.now.items in
     let end = c.args.fronts.code.end in
     let (e, rest, same, tree, rows, spans) = first-expression t m g.ops c.args.fronts fs c.in-Some-Expression.row
-    (subst (TakesFirst t m g.ops c.args.fronts fs) c.in-Some-Expression.is is) in
+    (subst (TakesFirst t m g.ops c.args.fronts fs) (c.in-Some-Expression.is ∙ ap Some c.in-Some-Expression.field-0-is) is) in
     ap (λ (ys : List Front). kind_by g (block_told g c.args.depth) types c.args.line c.args.start ys end) same
     ∙ kind-many g (block_told g c.args.depth) types c.args.line c.args.start e rest end
     (some-left t m c.args.fronts.rows.items rest rows (λ z. let other = c.if-len-ne0.true in let n = c.len.ensures in grind (arith, nat_tests)))
@@ -375,18 +383,18 @@ kind_by-expr_by-requires b c =
     let m = c.args.source.now.body.in_method in
     let ops = c.args.source.now.parts.now.code.ops in
     let (e, rest, same, tree, rows, spans) = first-expression t m ops c.args.fronts c.requires.0 c.in-Some-Expression.row
-    (subst (TakesFirst t m ops c.args.fronts c.requires.0) c.in-Some-Expression.is c.requires.1) in
+    (subst (TakesFirst t m ops c.args.fronts c.requires.0) (c.in-Some-Expression.is ∙ ap Some c.in-Some-Expression.field-0-is) c.requires.1) in
     (e, tree)
 
-pub kind_by-returns-in-Some-Expression-clause-told : goal.kind_by-returns-in-Some-Expression-clause-told
-kind_by-returns-in-Some-Expression-clause-told b c fs is =
+pub kind_by-returns-else-len-ne0-clause-told : goal.kind_by-returns-else-len-ne0-clause-told
+kind_by-returns-else-len-ne0-clause-told b c fs is =
     let t = c.args.program.now in
     let m = c.args.source.now.body.in_method in
     let g = given c.args.source.now in
     let types = c.args.types.now.items in
     let end = c.args.fronts.code.end in
     let (e, rest, same, tree, rows, spans) = first-expression t m g.ops c.args.fronts fs c.in-Some-Expression.row
-    (subst (TakesFirst t m g.ops c.args.fronts fs) c.in-Some-Expression.is is) in
+    (subst (TakesFirst t m g.ops c.args.fronts fs) (c.in-Some-Expression.is ∙ ap Some c.in-Some-Expression.field-0-is) is) in
     let zero : length c.args.fronts.rows.items ≡ 0 = let z = c.if-len-ne0.false in let n = c.len.ensures in grind (arith, nat_tests) in
     let none : rest ≡ [] = none-left t m c.args.fronts.rows.items rest rows zero in
     let all : fs ≡ expression e ∷ [] = same ∙ ap (λ (ys : List Front). expression e ∷ ys) none in
@@ -401,7 +409,7 @@ kind_by-object_by-requires-clause-path b c =
     let m = c.args.source.now.body.in_method in
     let ops = c.args.source.now.parts.now.code.ops in
     let (s, ks, rest, same, path, left) = first-object t m ops c.args.fronts c.requires.0 c.in-Some-Object.path
-    (subst (TakesFirst t m ops c.args.fronts c.requires.0) c.in-Some-Object.is c.requires.1) in
+    (subst (TakesFirst t m ops c.args.fronts c.requires.0) (c.in-Some-Object.is ∙ ap Some c.in-Some-Object.field-0-is) c.requires.1) in
     (s, ks, path)
 
 pub kind_by-object_by-requires-clause-left : goal.kind_by-object_by-requires-clause-left
@@ -410,7 +418,7 @@ kind_by-object_by-requires-clause-left b c =
     let m = c.args.source.now.body.in_method in
     let ops = c.args.source.now.parts.now.code.ops in
     let (s, ks, rest, same, path, left) = first-object t m ops c.args.fronts c.requires.0 c.in-Some-Object.path
-    (subst (TakesFirst t m ops c.args.fronts c.requires.0) c.in-Some-Object.is c.requires.1) in
+    (subst (TakesFirst t m ops c.args.fronts c.requires.0) (c.in-Some-Object.is ∙ ap Some c.in-Some-Object.field-0-is) c.requires.1) in
     (rest, left)
 
 pub kind_by-returns-in-Some-Object-clause-told : goal.kind_by-returns-in-Some-Object-clause-told
@@ -420,7 +428,7 @@ kind_by-returns-in-Some-Object-clause-told b c fs is =
     let g = given c.args.source.now in
     let types = c.args.types.now.items in
     let (s, ks, rest, same, path, left) = first-object t m g.ops c.args.fronts fs c.in-Some-Object.path
-    (subst (TakesFirst t m g.ops c.args.fronts fs) c.in-Some-Object.is is) in
+    (subst (TakesFirst t m g.ops c.args.fronts fs) (c.in-Some-Object.is ∙ ap Some c.in-Some-Object.field-0-is) is) in
     subst (λ (ys : List Front). MakesAs (IsKindSaid m (length types)) t c.object_by.new.program
     (kind_by g (block_told g c.args.depth) types c.args.line c.args.start ys c.args.fronts.code.end) c.object_by.result) (sym same)
     (c.object_by.ensures.told s ks rest path left)
@@ -432,31 +440,38 @@ kind_by-returns-in-Some-Place-clause-told b c fs is =
     let g = given c.args.source.now in
     let types = c.args.types.now.items in
     let (s, ks, e, rest, same, path, tree, left) = first-place t m g.ops c.args.fronts fs c.in-Some-Place.path c.in-Some-Place.index
-    (subst (TakesFirst t m g.ops c.args.fronts fs) c.in-Some-Place.is is) in
+    (subst (TakesFirst t m g.ops c.args.fronts fs) (c.in-Some-Place.is ∙ ap Some c.in-Some-Place.field-0-is) is) in
     subst (λ (ys : List Front). MakesAs (IsKindSaid m (length types)) t c.element_written.new.program
     (kind_by g (block_told g c.args.depth) types c.args.line c.args.start ys c.args.fronts.code.end) c.element_written.result) (sym same)
     (c.element_written.ensures.told s ks e rest path tree left)
 
 pub kind_told-kind_by-requires : goal.kind_told-kind_by-requires
 kind_told-kind_by-requires b c =
-    let (fs, from, grown, are) = c.in_ok-fronts.ensures.told in
-    (fs, c.take_first-first.ensures.takes c.raise_fronts.new.program c.args.source.now.body.in_method fs are)
+    let d = c.decreases in
+    let made = rw c.code.ensures at c.in_ok-fronts.ensures.told in
+    let takes = rw c.code-2.ensures at c.take_first-first.ensures.takes in
+    let (fs, from, grown, are) = made in
+    (omega (arith, d), (fs, takes c.raise_fronts.new.program c.args.source.now.body.in_method fs are))
 
 pub kind_told-returns-in_err-fronts-clause-told : goal.kind_told-returns-in_err-fronts-clause-told
 kind_told-returns-in_err-fronts-clause-told b c =
     let p = err_from_is_err_and c.from_residual.result c.from_residual.ensures.1 in
     let g = given c.args.source.now in
+    let made = subst (λ (x : Code). MakesFronts c.args.program.now c.raise_fronts.new.program c.args.source.now.body.in_method x.ops
+    (c.args.at + 1) (Err c.in_err-fronts.field-0.0)) c.code.ensures c.in_err-fronts.ensures.told in
     rw (p.1, p.2) (kind-refused c.args.source.now.body.in_method g (block_told g c.args.depth) c.args.types.now.items c.args.line c.args.at
-    c.args.program.now c.raise_fronts.new.program c.in_err-fronts.field-0.0 c.in_err-fronts.ensures.told)
+    c.args.program.now c.raise_fronts.new.program c.in_err-fronts.field-0.0 made)
 
 pub kind_told-returns-clause-told : goal.kind_told-returns-clause-told
 kind_told-returns-clause-told b c =
     let m = c.args.source.now.body.in_method in
     let g = given c.args.source.now in
     let u = c.raise_fronts.new.program in
+    let made = rw c.code.ensures at c.in_ok-fronts.ensures.told in
+    let takes = rw c.code-2.ensures at c.take_first-first.ensures.takes in
     kind-made m g (block_told g c.args.depth) c.args.types.now.items c.args.line c.args.at c.args.program.now u c.in_ok-fronts.fronts
-    c.in_ok-fronts.ensures.told c.kind_by.new.program c.kind_by.result
-    (λ fs are. rw c.take_first-first.ensures.end at (c.kind_by.ensures.told fs (c.take_first-first.ensures.takes u m fs are)))
+    made c.kind_by.new.program c.kind_by.result
+    (λ fs are. rw c.take_first-first.ensures.end at (c.kind_by.ensures.told fs (takes u m fs are)))
 
 pub kind_told-returns-clause-grows : goal.kind_told-returns-clause-grows
 kind_told-returns-clause-grows b c = extends-trans c.in_ok-fronts.ensures.grows c.kind_by.ensures.grows
@@ -511,14 +526,42 @@ raise_statements-loop-line-preserved-in-Same b c =
     c.loop-line.invariant (sym begins) c.kind_told.new.program c.put_stmt.new.program c.in_ok-kind.kind c.in_ok-kind.behind c.in-Ok.number
     c.in_ok-kind.ensures.told c.in-Ok.ensures.adds c.in-Same.is)
 
-pub raise_statements-loop-line-preserved-in-More : goal.raise_statements-loop-line-preserved-in-More
-raise_statements-loop-line-preserved-in-More b c =
+pub raise_statements-loop-line-preserved : goal.raise_statements-loop-line-preserved
+raise_statements-loop-line-preserved b c =
     let g = given c.args.source.now in
     let begins = rw c.code.ensures at c.in-Some.ensures.told in
-    rw (c.in-Ok-push-in-More.ensures.items, c.in-Ok-push.ensures.items, c.in_ok-kind.ensures.types) (turn-more c.args.source.now.body.in_method g
+    rw (c.in-Ok-push-2.ensures.items, c.in-Ok-push.ensures.items, c.in_ok-kind.ensures.types) (turn-more c.args.source.now.body.in_method g
     c.args.depth c.args.program.now c.loop-line.program c.args.types.now.items c.loop-line.types.items c.loop-line.numbers.items c.args.at
     c.loop-line.end c.in-Some.line c.loop-line.invariant (sym begins) c.kind_told.new.program c.put_stmt.new.program c.in_ok-kind.kind
     c.in_ok-kind.behind c.in-Ok.number c.in_ok-kind.ensures.told c.in-Ok.ensures.adds c.in-More.ty c.in-More.is)
+
+pub raise_statements-loop-line-smaller-in-Same : goal.raise_statements-loop-line-smaller-in-Same
+raise_statements-loop-line-smaller-in-Same b c =
+    let g = given c.args.source.now in
+    let begins = rw c.code.ensures at c.in-Some.ensures.told in
+    let (later, within) = turn-smaller c.args.source.now.body.in_method g c.args.depth c.args.program.now c.loop-line.program c.args.types.now.items
+    c.loop-line.types.items c.loop-line.numbers.items c.args.at c.loop-line.end c.in-Some.line c.loop-line.invariant (sym begins)
+    c.kind_told.new.program c.put_stmt.new.program c.in_ok-kind.kind c.in_ok-kind.behind c.in-Ok.number c.in_ok-kind.ensures.told
+    c.in-Ok.ensures.adds in
+    omega (arith, later, within)
+
+pub raise_statements-loop-line-smaller : goal.raise_statements-loop-line-smaller
+raise_statements-loop-line-smaller b c =
+    let g = given c.args.source.now in
+    let begins = rw c.code.ensures at c.in-Some.ensures.told in
+    let (later, within) = turn-smaller c.args.source.now.body.in_method g c.args.depth c.args.program.now c.loop-line.program c.args.types.now.items
+    c.loop-line.types.items c.loop-line.numbers.items c.args.at c.loop-line.end c.in-Some.line c.loop-line.invariant (sym begins)
+    c.kind_told.new.program c.put_stmt.new.program c.in_ok-kind.kind c.in_ok-kind.behind c.in-Ok.number c.in_ok-kind.ensures.told
+    c.in-Ok.ensures.adds in
+    omega (arith, later, within)
+
+pub raise_statements-returns-in_default-push-2-clause-grows : goal.raise_statements-returns-in_default-push-2-clause-grows
+raise_statements-returns-in_default-push-2-clause-grows b c =
+    extends-trans c.loop-line.invariant.grown (extends-trans c.in_ok-kind.ensures.grows c.in-Ok.ensures.grows)
+
+pub raise_statements-returns-in-Last-clause-grows : goal.raise_statements-returns-in-Last-clause-grows
+raise_statements-returns-in-Last-clause-grows b c =
+    extends-trans c.loop-line.invariant.grown (extends-trans c.in_ok-kind.ensures.grows c.in-Ok.ensures.grows)
 
 pub raise_statements-returns-in-Last-clause-told : goal.raise_statements-returns-in-Last-clause-told
 raise_statements-returns-in-Last-clause-told b c =
@@ -562,8 +605,9 @@ raise_inner-returns-clause-told b c =
 
 pub raise_inner-returns-clause-types : goal.raise_inner-returns-clause-types
 raise_inner-returns-clause-types b c =
+    let n : c.len-slots.result ≡ length c.args.types.now.items = omega (arith, c.len-slots.ensures) in
     let (more, all) = c.in_ok-numbers.ensures.types in
-    c.truncate.ensures.items ∙ ap (λ (n : ℕ). take n c.raise_statements.new.types.items) c.len-slots.ensures
+    c.truncate.ensures.items ∙ ap (λ (k : ℕ). take k c.raise_statements.new.types.items) n
     ∙ shortened c.args.types.now.items more c.raise_statements.new.types.items all
 
 pub raise_inner-returns-in_default-clause-grows : goal.raise_inner-returns-in_default-clause-grows
