@@ -379,12 +379,13 @@ kind_by-returns-then-len-ne0-clause-told b c fs is =
 
 pub kind_by-expr_by-requires : goal.kind_by-expr_by-requires
 kind_by-expr_by-requires b c =
+    let d = c.decreases in
     let t = c.args.program.now in
     let m = c.args.source.now.body.in_method in
     let ops = c.args.source.now.parts.now.code.ops in
     let (e, rest, same, tree, rows, spans) = first-expression t m ops c.args.fronts c.requires.0 c.in-Some-Expression.row
     (subst (TakesFirst t m ops c.args.fronts c.requires.0) (c.in-Some-Expression.is ∙ ap Some c.in-Some-Expression.field-0-is) c.requires.1) in
-    (e, tree)
+    (omega (arith, d), (e, tree))
 
 pub kind_by-returns-else-len-ne0-clause-told : goal.kind_by-returns-else-len-ne0-clause-told
 kind_by-returns-else-len-ne0-clause-told b c fs is =
