@@ -445,16 +445,18 @@ fn kind_by(
     ensures types { IfOk result (λ x. types.new.items ≡ types.old.items) }
 {
     let code = fronts.code;
-    match first {
-        None => open_by(source, program, types, depth, line, code.end),
-        Some(FrontRow::Expression { row }) => {
+    let Some(front) = first else {
+        return open_by(source, program, types, depth, line, code.end);
+    };
+    match front {
+        FrontRow::Expression { row } => {
             if fronts.rows.len() != 0 {
                 return Err(Refusal::NotRaised);
             }
             expr_by(source, program, types, depth, line, start, row, code)
         }
-        Some(FrontRow::Object { path }) => { object_by(source, program, types, path, fronts) }
-        Some(FrontRow::Place { path, index }) => {
+        FrontRow::Object { path } => object_by(source, program, types, path, fronts),
+        FrontRow::Place { path, index } => {
             element_written(source, program, types, path, index, fronts)
         }
     }

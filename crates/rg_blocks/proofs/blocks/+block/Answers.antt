@@ -354,13 +354,13 @@ open_by-returns-in-Some-Enter-clause-told b c =
 
 -- by the first of what it begins with
 
-pub kind_by-returns-in-None-clause-told : goal.kind_by-returns-in-None-clause-told
-kind_by-returns-in-None-clause-told b c fs is =
+pub kind_by-returns-in_default-clause-told : goal.kind_by-returns-in_default-clause-told
+kind_by-returns-in_default-clause-told b c fs is =
     let t = c.args.program.now in
     let m = c.args.source.now.body.in_method in
     let g = given c.args.source.now in
     let types = c.args.types.now.items in
-    let none = first-none t m g.ops c.args.fronts fs (subst (TakesFirst t m g.ops c.args.fronts fs) c.in-None.is is) in
+    let none = first-none t m g.ops c.args.fronts fs (subst (TakesFirst t m g.ops c.args.fronts fs) c.in_default.is is) in
     subst (λ (ys : List Front). MakesAs (IsKindSaid m (length types)) t c.open_by.new.program
     (kind_by g (block_told g c.args.depth) types c.args.line c.args.start ys c.args.fronts.code.end) c.open_by.result) (sym none) c.open_by.ensures.told
 
@@ -371,8 +371,8 @@ kind_by-returns-then-len-ne0-clause-told b c fs is =
     let g = given c.args.source.now in
     let types = c.args.types.now.items in
     let end = c.args.fronts.code.end in
-    let (e, rest, same, tree, rows, spans) = first-expression t m g.ops c.args.fronts fs c.in-Some-Expression.row
-    (subst (TakesFirst t m g.ops c.args.fronts fs) (c.in-Some-Expression.is ∙ ap Some c.in-Some-Expression.field-0-is) is) in
+    let (e, rest, same, tree, rows, spans) = first-expression t m g.ops c.args.fronts fs c.in-Expression.row
+    (subst (TakesFirst t m g.ops c.args.fronts fs) (c.in-Some.is ∙ ap Some c.in-Expression.is) is) in
     ap (λ (ys : List Front). kind_by g (block_told g c.args.depth) types c.args.line c.args.start ys end) same
     ∙ kind-many g (block_told g c.args.depth) types c.args.line c.args.start e rest end
     (some-left t m c.args.fronts.rows.items rest rows (λ z. let other = c.if-len-ne0.true in let n = c.len.ensures in grind (arith, nat_tests)))
@@ -383,8 +383,8 @@ kind_by-expr_by-requires b c =
     let t = c.args.program.now in
     let m = c.args.source.now.body.in_method in
     let ops = c.args.source.now.parts.now.code.ops in
-    let (e, rest, same, tree, rows, spans) = first-expression t m ops c.args.fronts c.requires.0 c.in-Some-Expression.row
-    (subst (TakesFirst t m ops c.args.fronts c.requires.0) (c.in-Some-Expression.is ∙ ap Some c.in-Some-Expression.field-0-is) c.requires.1) in
+    let (e, rest, same, tree, rows, spans) = first-expression t m ops c.args.fronts c.requires.0 c.in-Expression.row
+    (subst (TakesFirst t m ops c.args.fronts c.requires.0) (c.in-Some.is ∙ ap Some c.in-Expression.is) c.requires.1) in
     (omega (arith, d), (e, tree))
 
 pub kind_by-returns-else-len-ne0-clause-told : goal.kind_by-returns-else-len-ne0-clause-told
@@ -394,8 +394,8 @@ kind_by-returns-else-len-ne0-clause-told b c fs is =
     let g = given c.args.source.now in
     let types = c.args.types.now.items in
     let end = c.args.fronts.code.end in
-    let (e, rest, same, tree, rows, spans) = first-expression t m g.ops c.args.fronts fs c.in-Some-Expression.row
-    (subst (TakesFirst t m g.ops c.args.fronts fs) (c.in-Some-Expression.is ∙ ap Some c.in-Some-Expression.field-0-is) is) in
+    let (e, rest, same, tree, rows, spans) = first-expression t m g.ops c.args.fronts fs c.in-Expression.row
+    (subst (TakesFirst t m g.ops c.args.fronts fs) (c.in-Some.is ∙ ap Some c.in-Expression.is) is) in
     let zero : length c.args.fronts.rows.items ≡ 0 = let z = c.if-len-ne0.false in let n = c.len.ensures in grind (arith, nat_tests) in
     let none : rest ≡ [] = none-left t m c.args.fronts.rows.items rest rows zero in
     let all : fs ≡ expression e ∷ [] = same ∙ ap (λ (ys : List Front). expression e ∷ ys) none in
@@ -409,8 +409,8 @@ kind_by-object_by-requires-clause-path b c =
     let t = c.args.program.now in
     let m = c.args.source.now.body.in_method in
     let ops = c.args.source.now.parts.now.code.ops in
-    let (s, ks, rest, same, path, left) = first-object t m ops c.args.fronts c.requires.0 c.in-Some-Object.path
-    (subst (TakesFirst t m ops c.args.fronts c.requires.0) (c.in-Some-Object.is ∙ ap Some c.in-Some-Object.field-0-is) c.requires.1) in
+    let (s, ks, rest, same, path, left) = first-object t m ops c.args.fronts c.requires.0 c.in-Object.path
+    (subst (TakesFirst t m ops c.args.fronts c.requires.0) (c.in-Some.is ∙ ap Some c.in-Object.is) c.requires.1) in
     (s, ks, path)
 
 pub kind_by-object_by-requires-clause-left : goal.kind_by-object_by-requires-clause-left
@@ -418,30 +418,30 @@ kind_by-object_by-requires-clause-left b c =
     let t = c.args.program.now in
     let m = c.args.source.now.body.in_method in
     let ops = c.args.source.now.parts.now.code.ops in
-    let (s, ks, rest, same, path, left) = first-object t m ops c.args.fronts c.requires.0 c.in-Some-Object.path
-    (subst (TakesFirst t m ops c.args.fronts c.requires.0) (c.in-Some-Object.is ∙ ap Some c.in-Some-Object.field-0-is) c.requires.1) in
+    let (s, ks, rest, same, path, left) = first-object t m ops c.args.fronts c.requires.0 c.in-Object.path
+    (subst (TakesFirst t m ops c.args.fronts c.requires.0) (c.in-Some.is ∙ ap Some c.in-Object.is) c.requires.1) in
     (rest, left)
 
-pub kind_by-returns-in-Some-Object-clause-told : goal.kind_by-returns-in-Some-Object-clause-told
-kind_by-returns-in-Some-Object-clause-told b c fs is =
+pub kind_by-returns-in-Object-clause-told : goal.kind_by-returns-in-Object-clause-told
+kind_by-returns-in-Object-clause-told b c fs is =
     let t = c.args.program.now in
     let m = c.args.source.now.body.in_method in
     let g = given c.args.source.now in
     let types = c.args.types.now.items in
-    let (s, ks, rest, same, path, left) = first-object t m g.ops c.args.fronts fs c.in-Some-Object.path
-    (subst (TakesFirst t m g.ops c.args.fronts fs) (c.in-Some-Object.is ∙ ap Some c.in-Some-Object.field-0-is) is) in
+    let (s, ks, rest, same, path, left) = first-object t m g.ops c.args.fronts fs c.in-Object.path
+    (subst (TakesFirst t m g.ops c.args.fronts fs) (c.in-Some.is ∙ ap Some c.in-Object.is) is) in
     subst (λ (ys : List Front). MakesAs (IsKindSaid m (length types)) t c.object_by.new.program
     (kind_by g (block_told g c.args.depth) types c.args.line c.args.start ys c.args.fronts.code.end) c.object_by.result) (sym same)
     (c.object_by.ensures.told s ks rest path left)
 
-pub kind_by-returns-in-Some-Place-clause-told : goal.kind_by-returns-in-Some-Place-clause-told
-kind_by-returns-in-Some-Place-clause-told b c fs is =
+pub kind_by-returns-in-Place-clause-told : goal.kind_by-returns-in-Place-clause-told
+kind_by-returns-in-Place-clause-told b c fs is =
     let t = c.args.program.now in
     let m = c.args.source.now.body.in_method in
     let g = given c.args.source.now in
     let types = c.args.types.now.items in
-    let (s, ks, e, rest, same, path, tree, left) = first-place t m g.ops c.args.fronts fs c.in-Some-Place.path c.in-Some-Place.index
-    (subst (TakesFirst t m g.ops c.args.fronts fs) (c.in-Some-Place.is ∙ ap Some c.in-Some-Place.field-0-is) is) in
+    let (s, ks, e, rest, same, path, tree, left) = first-place t m g.ops c.args.fronts fs c.in-Place.path c.in-Place.index
+    (subst (TakesFirst t m g.ops c.args.fronts fs) (c.in-Some.is ∙ ap Some c.in-Place.is) is) in
     subst (λ (ys : List Front). MakesAs (IsKindSaid m (length types)) t c.element_written.new.program
     (kind_by g (block_told g c.args.depth) types c.args.line c.args.start ys c.args.fronts.code.end) c.element_written.result) (sym same)
     (c.element_written.ensures.told s ks e rest path tree left)
