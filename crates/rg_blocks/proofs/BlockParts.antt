@@ -1,6 +1,6 @@
 -- Statements with blocks, by their parts.
 use Rattle.std.proofs.Common.{◌≡◌, ◌==◌, ℕ, suc, ◌+◌, if◌then◌else◌, Bool as Truth, true, false, List, [], ◌∷◌, length, Option, Some, None}
-use Rattle.std.proofs.Common.{refl, sym, ap, ◌∙◌, arith}
+use Rattle.std.proofs.Common.{refl, ap, ◌∙◌, arith}
 use Rattle.std.proofs.lemmas.Bool.{eq-eqb}
 use Rattle.rg_base.specs.declared.ty.Ty.{Ty}
 use Rattle.rg_verify.specs.Raised.{Raised, Front, expression}

@@ -22,7 +22,7 @@ use Rattle.rg_verify.specs.Raised.{Raised, named, path_named}
 use Rattle.rg_verify.specs.Rows.{IsTree, IsPath}
 use Rattle.rg_verify.specs.Statements.{Block, Kind, branch, while, enter, enter_field, print, return, no_else, otherwise, types_inside}
 use Rattle.rg_verify.specs.Signs.{end_of}
-use Rattle.rg_verify.specs.Blocks.{◌>>=◌, Given, Inner, Told, slot_type, bridge_class, path_in, ended, otherwise_told, jumped, tested, window_end, window}
+use Rattle.rg_verify.specs.Blocks.{Given, Inner, Told, slot_type, bridge_class, path_in, ended, otherwise_told, jumped, tested, window_end, window}
 use Rattle.rg_verify.specs.Blocks.{expr_by, open_by}
 use Rattle.rg_raise.specs.declared.said.KindSaid.{KindSaid}
 use Rattle.rg_blocks.specs.declared.said.WindowSaid.{WindowSaid}

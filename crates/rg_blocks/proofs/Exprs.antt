@@ -1,19 +1,15 @@
 -- Statements that begin with an expression alone, or with nothing.
-use Rattle.std.proofs.Common.{◌≡◌, ◌==◌, ℕ, suc, ◌+◌, Bool as Truth, true, false, List, [], ◌∷◌, length, Option, Some, None, Result, Ok, Err}
+use Rattle.std.proofs.Common.{◌≡◌, ◌==◌, ℕ, suc, ◌+◌, Bool as Truth, true, false, List, [], ◌∷◌, length, Some, None, Result, Ok, Err}
 use Rattle.std.proofs.Common.{refl, sym, ap, ◌∙◌, subst, arith}
 use Rattle.std.proofs.lemmas.Bool.{eqb-true}
 use Rattle.rg_base.specs.declared.ty.Ty.{Ty}
 use Rattle.rg_tree.specs.declared.rows.Span.{Span}
 use Rattle.rg_tree.specs.declared.rows.StmtKind.TheVariants as kind_row
-use Rattle.rg_tree.specs.Tree as tree
 use Rattle.rg_tree.specs.Rows.Tables.{Tables}
-use Rattle.rg_tree.specs.Adds.{Extends}
 use Rattle.rg_tree.proofs.Adding.{extends-same}
 use Rattle.rg_verify.specs.declared.refusal.Refusal.{Refusal}
 use Rattle.rg_verify.specs.declared.refusal.Refusal.TheVariants as refusal
-use Rattle.rg_verify.specs.declared.signs.Close.{Close}
 use Rattle.rg_verify.specs.declared.signs.Close.TheVariants as close
-use Rattle.rg_verify.specs.declared.signs.Open.{Open}
 use Rattle.rg_verify.specs.declared.signs.Open.TheVariants as opens
 use Rattle.rg_verify.specs.declared.signs.Walk.{Walk}
 use Rattle.rg_verify.specs.declared.signs.Walk.TheVariants as walk
@@ -21,7 +17,7 @@ use Rattle.rg_verify.specs.Raised.{Raised, named, Front}
 use Rattle.rg_verify.specs.Rows.{IsTree}
 use Rattle.rg_verify.specs.Statements.{Block, Kind, Right, new, new_tmp, new_iso, while, print, return, collect, all_used}
 use Rattle.rg_verify.specs.Signs.{close_of, open_of, walk_of, jump_of}
-use Rattle.rg_verify.specs.Blocks.{◌>>=◌, Given, Inner, Told, sign, cleared, right_behind, taken, otherwise_told, jumped, tested, close_by}
+use Rattle.rg_verify.specs.Blocks.{Given, Inner, Told, sign, cleared, right_behind, taken, otherwise_told, jumped, tested, close_by}
 use Rattle.rg_verify.specs.Blocks.{expr_by, open_by, fronts_at, kind_by, kind_told}
 use Rattle.rg_raise.specs.declared.said.Fronts.{Fronts}
 use Rattle.rg_raise.specs.declared.said.KindSaid.{KindSaid}

@@ -1,10 +1,9 @@
 -- The first of what a statement begins with, by its row.
-use Rattle.std.proofs.Common.{◌≡◌, ℕ, Bool as Truth, List, [], ◌∷◌, Option, Some, None}
+use Rattle.std.proofs.Common.{◌≡◌, ℕ, Bool as Truth, List, [], ◌∷◌, Some, None}
 use Rattle.std.proofs.Common.{refl, ap, subst}
 use Rattle.rg_tree.specs.declared.rows.Path as rows
 use Rattle.rg_tree.specs.Rows.Tables.{Tables}
 use Rattle.rg_code.specs.declared.op.Op.{Op}
-use Rattle.rg_verify.specs.declared.front.FrontRow.{FrontRow}
 use Rattle.rg_verify.specs.declared.front.FrontRow.TheVariants as front
 use Rattle.rg_verify.specs.Raised.{Raised, Front, expression, object, place, named}
 use Rattle.rg_verify.specs.Rows.{IsTree}

@@ -12,7 +12,7 @@ use Rattle.rg_tree.specs.Rows.Tables.{Tables, numbers_in}
 use Rattle.rg_tree.specs.Rows.RowTrees.{path_of, expr_at, expr_of, stmt_at, block_over, program_of}
 use Rattle.rg_tree.specs.Rows.RowsExist.{Holds, IsPathIn, IsExprIn, IsStmtNumber}
 use Rattle.rg_tree.specs.Keeps.{Keeps}
-use Rattle.rg_tree.specs.Adds.{Extends, Means, Adds}
+use Rattle.rg_tree.specs.Adds.{Means, Adds}
 use Rattle.rg_tree.proofs.Callers.{IsAbove-Keeps}
 use Rattle.rg_tree.proofs.Grows.{path_of-grows, IsPathIn-grows}
 use Rattle.rg_tree.proofs.Adding.{stmt-means, extends-by, means-later}
@@ -21,7 +21,7 @@ use Rattle.rg_verify.specs.Rows.{IsTree}
 use Rattle.rg_verify.specs.Blocks.{path_in}
 use Rattle.rg_raise.specs.Telling.{IsPathTo}
 use Rattle.rg_raise.proofs.Rows.{means-now, means-span}
-use Rattle.rg_blocks.specs.Blocks.{FindsPath, AreStmts, block_with, AddsBlock}
+use Rattle.rg_blocks.specs.Blocks.{FindsPath, block_with, AddsBlock}
 
 -- a row over four others
 module _ {W B : Type 0} {at : Tables → W → B} {exists : Tables → W → Type 0} where

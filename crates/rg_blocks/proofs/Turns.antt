@@ -1,6 +1,6 @@
 -- The turns of a loop over the statements of a block.
-use Rattle.std.proofs.Common.{◌≡◌, ℕ, zero, suc, ◌+◌, ◌-◌, ◌<◌, ◌≤◌, Bool as Truth, true, false, List, [], ◌∷◌, ◌++◌, drop, take, length, slice_get, Vec}
-use Rattle.std.proofs.Common.{Option, Some, None, Result, Ok, Err, refl, sym, ap, ◌∙◌, subst, append_assoc, arith}
+use Rattle.std.proofs.Common.{◌≡◌, ℕ, zero, suc, ◌+◌, ◌-◌, ◌<◌, ◌≤◌, Bool as Truth, false, List, [], ◌∷◌, ◌++◌, drop, take, length, slice_get, Vec}
+use Rattle.std.proofs.Common.{Option, Some, None, Ok, Err, refl, sym, ap, ◌∙◌, subst, append_assoc, arith}
 use Rattle.std.proofs.Math.Seq.{take-append_seam}
 use Rattle.std.proofs.lemmas.List.{length-append, length-drop}
 use Rattle.std.proofs.lemmas.Option.{slice_get_within}
@@ -12,20 +12,19 @@ use Rattle.rg_tree.specs.Rows.Tables.{Tables}
 use Rattle.rg_tree.specs.Rows.RowTrees.{stmt_at, block_of}
 use Rattle.rg_tree.specs.Rows.RowsExist.{IsStmtNumber, IsBlockIn}
 use Rattle.rg_tree.specs.Adds.{Extends, Means, Adds}
-use Rattle.rg_tree.proofs.Callers.{Keeps-same}
-use Rattle.rg_tree.proofs.Adding.{extends-trans, means-later}
+use Rattle.rg_tree.proofs.Adding.{extends-trans}
 use Rattle.rg_code.specs.declared.op.Op.{Op}
 use Rattle.rg_verify.specs.declared.refusal.Refusal.{Refusal}
 use Rattle.rg_verify.specs.Statements.{Kind, declare, assign, write, write_element, call, swap, branch, while, enter, enter_field, print, collect}
 use Rattle.rg_verify.specs.Statements.{return, Block, empty, next, types_behind, kind_ops}
-use Rattle.rg_verify.specs.Found.{kind_named, block_named}
+use Rattle.rg_verify.specs.Found.{kind_named}
 use Rattle.rg_verify.specs.Signs.{mark_of}
-use Rattle.rg_verify.specs.Blocks.{◌>>=◌, Given, Told, sign, starts, is_last, kind_told, statements, block_told, Piece}
+use Rattle.rg_verify.specs.Blocks.{◌>>=◌, Given, Told, sign, starts, is_last, kind_told, statements, block_told}
 use Rattle.rg_verify.proofs.BlockRaises.{kind-piece, starts-marked, block-piece}
 use Rattle.rg_raise.specs.declared.said.KindSaid.{KindSaid}
 use Rattle.rg_raise.specs.declared.said.After.TheVariants as after
 use Rattle.rg_raise.specs.Telling.{MakesAs, IsKindSaid, kind_of, after_of}
-use Rattle.rg_blocks.specs.Blocks.{AreSaid, IsBlockSaid, AddsBlock, block_with}
+use Rattle.rg_blocks.specs.Blocks.{AreSaid, IsBlockSaid, AddsBlock}
 use Rattle.rg_raise.proofs.Rows.{means-now}
 use Rattle.rg_raise.proofs.Telling.{bind-none, makes-some, makes-so, refused}
 use Rattle.rg_blocks.proofs.Going.{Going, going-later, going-on, going-ends, loop-ends, loop-refused, loop-last, loop-more, behind-last, behind-same}

@@ -1,4 +1,4 @@
-use Rattle.std.proofs.Common.{◌≡◌, ◌==◌, ◌-◌, ◌+◌, ℕ, suc, List, [], ◌∷◌, take, length, refl, sym, ap, ◌∙◌, subst, Option, Some, None, Ok, Err, false, arith}
+use Rattle.std.proofs.Common.{◌≡◌, ◌-◌, ◌+◌, ℕ, suc, List, [], ◌∷◌, take, length, refl, sym, ap, ◌∙◌, subst, Option, Some, Err, arith}
 use Rattle.std.proofs.lemmas.Bool.Decides.{nat_tests}
 use Rattle.std.proofs.lemmas.Result.{err_from_is_err_and}
 use Rattle.rg_base.specs.declared.words.Cap.TheVariants as cap
@@ -12,19 +12,18 @@ use Rattle.rg_code.specs.Code.{Code}
 use Rattle.rg_verify.specs.declared.signs.Close.{Close}
 use Rattle.rg_verify.specs.declared.signs.Open.{Open}
 use Rattle.rg_verify.specs.declared.signs.Walk.{Walk}
-use Rattle.rg_verify.specs.Raised.{Raised, Front, expression}
-use Rattle.rg_verify.specs.Statements.{Block, Kind, value, types_inside}
-use Rattle.rg_verify.specs.Signs.{open_of, walk_of}
-use Rattle.rg_verify.specs.Blocks.{Told, sign, cleared, window, path_in, fronts_at, close_by, expr_by, open_by, kind_by, kind_told, block_told}
+use Rattle.rg_verify.specs.Raised.{Front, expression}
+use Rattle.rg_verify.specs.Statements.{Kind, value}
+use Rattle.rg_verify.specs.Blocks.{Told, cleared, window, path_in, close_by, expr_by, open_by, kind_by, kind_told, block_told}
 use Rattle.rg_raise.specs.Fronts.{Spans, TakesFirst, MakesFronts}
 use Rattle.rg_raise.specs.Telling.{given, MakesAs, IsKindSaid}
 use Rattle.rg_raise.proofs.Rows.{means-one, means-there, names-none}
 use Rattle.rg_tree.proofs.Adding.{extends-trans, means-later}
-use Rattle.rg_raise.proofs.Telling.{makes-behind, makes-some}
+use Rattle.rg_raise.proofs.Telling.{makes-some}
 use Rattle.rg_blocks.specs.Blocks.{IsBlockSaid, IsWindowSaid}
 use Rattle.rg_blocks.proofs.Put.{finds-path, finds-no-path}
 use Rattle.rg_blocks.proofs.Going.{Looping, looping-begins}
-use Rattle.rg_blocks.proofs.BlockParts.{jumped-astray, window-astray, window-untyped, window-classless, window-open, kind-as, kind-unread, kind-many, block-none}
+use Rattle.rg_blocks.proofs.BlockParts.{jumped-astray, window-astray, window-untyped, window-classless, kind-many, block-none}
 use Rattle.rg_blocks.proofs.Exprs.{astray, jumped-made, jumped-goes, close-print, close-return, close-test, expr-uncleared, expr-closed, expr-array}
 use Rattle.rg_blocks.proofs.Exprs.{open-collect, kind-refused, kind-made}
 use Rattle.rg_raise.proofs.FrontRows.{none-left, some-left}
