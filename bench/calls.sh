@@ -353,7 +353,7 @@ for file in glob.glob("crates/*/src/**/*.rt", recursive=True):
 def variants(crate, name):
     of = enums.get(name, {})
     if crate in of: return [*of[crate]]
-    home = {"rg_module": "rg_spell", "rg_raise": "rg_verify"}.get(crate, "rg_base")
+    home = {"rg_module": "rg_spell", "rg_raise": "rg_verify", "rg_blocks": "rg_verify"}.get(crate, "rg_base")
     return [*next(iter(of.values()))] if len(of) == 1 else [*of.get(home, [])]
 
 def functions(item, indent):
