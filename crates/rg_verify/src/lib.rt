@@ -9,8 +9,8 @@
 //! `specs/Statements`). How blocks are raised is a definition (`block_told` in `specs/Blocks`);
 //! what it tells has the code that stands there (`raised_blocks_stand`), and it tells each block
 //! that stands there (`standing_blocks_are_told`, with `BlockStand` of `specs/Standing`): at most
-//! one (`blocks_stand_once`), or none (`blocks_are_told`). No call raises blocks yet, nor are maps
-//! and heads tested. All else is private.
+//! one (`blocks_stand_once`), or none (`blocks_are_told`). Blocks are raised by the crates above,
+//! rg_raise and rg_blocks; no call tests maps and heads yet. All else is private.
 #![tactic(auto)]
 
 mod body;
