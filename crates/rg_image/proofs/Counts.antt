@@ -50,8 +50,8 @@ one-count cells r object region e =
     let none : cond (leads_into cells r (Obj object)) 1 0 + 0 ≡ cond (leads_into cells r (Obj object)) 1 0 = omega arith in
     sym (one ∙ none ∙ here)
 
-entry-is : (cells : List CargoCell) (own : Label) (object region r : ℕ) → label_of cells object ≡ Some (Region region) → enters own region ≡ true
-    → cond (region == r) 1 0 ≡ entries_of cells r own (Obj object ∷ [])
+entry-is : (cells : List CargoCell) (own : Label) (object region r : ℕ) → label_of cells object ≡ Some (Region region)
+    → enters own region ≡ true → cond (region == r) 1 0 ≡ entries_of cells r own (Obj object ∷ [])
 entry-is cells (Region q) object region r e t =
     let apart : region == r ≡ true → q == r ≡ false =
     λ s. not_true (q == r) (subst (λ (z : ℕ). not (q == z) ≡ true) (eqb-true region r s) t) in
@@ -85,8 +85,8 @@ entries-cons cells r (Region q) v vs = by_own (q == r)
 entries-cons cells r (Temp t) v vs = counts-cons (leads_into cells r) v vs
 entries-cons cells r Frozen v vs = refl
 
-pub field-next : (cells : List CargoCell) (own : Label) (fields : List Val) (k : ℕ) (v : Val) (old mid : List ℕ) → slice_get fields k ≡ Some v
-    → Adds old mid (λ r. entries_of cells r own (v ∷ [])) → (all : List ℕ)
+pub field-next : (cells : List CargoCell) (own : Label) (fields : List Val) (k : ℕ) (v : Val) (old mid : List ℕ)
+    → slice_get fields k ≡ Some v → Adds old mid (λ r. entries_of cells r own (v ∷ [])) → (all : List ℕ)
     → Adds mid all (λ r. entries_of cells r own (drop (k + 1) fields)) → Adds old all (λ r. entries_of cells r own (drop k fields))
 field-next cells own fields k v old mid there first all second =
     adds_then old mid all (λ r. entries_of cells r own (v ∷ [])) (λ r. entries_of cells r own (drop (k + 1) fields)) _
@@ -107,28 +107,31 @@ cell-next cells k c old mid there first all second =
 
 same_test : (e n : ℕ) (b : Truth) → n ≡ min e 2 → (n == (if b then 0 else 1)) ≡ (e == (if b then 0 else 1))
 same_test e n true capped =
-    same_from_decides (n == 0) (e == 0) (Decides-eqb n 0) (Decides-like (e == 0) (λ same. omega (arith, same, capped)) (λ same. omega (arith, same, capped))
-    (Decides-eqb e 0))
+    same_from_decides (n == 0) (e == 0) (Decides-eqb n 0)
+    (Decides-like (e == 0) (λ same. omega (arith, same, capped)) (λ same. omega (arith, same, capped)) (Decides-eqb e 0))
 same_test e n false capped =
-    same_from_decides (n == 1) (e == 1) (Decides-eqb n 1) (Decides-like (e == 1) (λ same. omega (arith, same, capped)) (λ same. omega (arith, same, capped))
-    (Decides-eqb e 1))
+    same_from_decides (n == 1) (e == 1) (Decides-eqb n 1)
+    (Decides-like (e == 1) (λ same. omega (arith, same, capped)) (λ same. omega (arith, same, capped)) (Decides-eqb e 1))
 
-pub right_are : (cells : List CargoCell) (k : ℕ) (counts : List ℕ) → ((r n : ℕ) → slice_get counts r ≡ Some n → n ≡ min (entries cells (k + r)) 2)
+pub right_are : (cells : List CargoCell) (k : ℕ) (counts : List ℕ)
+    → ((r n : ℕ) → slice_get counts r ≡ Some n → n ≡ min (entries cells (k + r)) 2)
     → are_right k counts ≡ list_all (is_entered cells) (range_with_len k (length counts))
 right_are cells k [] capped = refl
 right_are cells k (n ∷ ns) capped =
     let here : k + 0 ≡ k = omega arith in
     let one : suc k ≡ k + 1 = omega arith in
     let next : (r m : ℕ) → slice_get ns r ≡ Some m → m ≡ min (entries cells ((k + 1) + r)) 2 =
-    λ r m there. let shifted : k + suc r ≡ (k + 1) + r = omega arith in capped (suc r) m there ∙ ap (λ j. min (entries cells j) 2) shifted in
+    λ r m there.
+    let shifted : k + suc r ≡ (k + 1) + r = omega arith in
+    capped (suc r) m there ∙ ap (λ j. min (entries cells j) 2) shifted in
     let first : (n == (if k == 0 then 0 else 1)) ≡ is_entered cells k =
     same_test (entries cells k) n (k == 0) (capped 0 n refl ∙ ap (λ j. min (entries cells j) 2) here) in
     ap (λ b. b && are_right (suc k) ns) first
     ∙ ap (λ b. is_entered cells k && b) (ap (λ j. are_right j ns) one ∙ right_are cells (k + 1) ns next)
 
 -- counts of all entries, where there was none
-pub counted-all : (cells : List CargoCell) (old new : List ℕ) (regions : ℕ) → old ≡ replicate regions 0 → Adds old new (λ r. entries cells r)
-    → (r n : ℕ) → slice_get new r ≡ Some n → n ≡ min (entries cells (0 + r)) 2
+pub counted-all : (cells : List CargoCell) (old new : List ℕ) (regions : ℕ) → old ≡ replicate regions 0
+    → Adds old new (λ r. entries cells r) → (r n : ℕ) → slice_get new r ≡ Some n → n ≡ min (entries cells (0 + r)) 2
 counted-all cells old new regions none added r n at =
     let within : r < regions =
     omega (arith, slice_get_within new r n at, added.even, ap length none, length-replicate {A = ℕ} regions 0) in

@@ -16,7 +16,8 @@ pub ends : {A : Type 0} (reader : List ℕ → Option (A × List ℕ)) (e : Refu
     (total : Option (List A × List ℕ))
     → i < count → Fails e (reader bytes) → with_front front (many_at reader (count - i) bytes) ≡ total → Fails e total
 ends reader refusal.Memory front count i bytes total lt h so_far = tt
-ends reader refusal.NotImage front count i bytes total lt h so_far = loops.ends reader module_refusal.NotModule front count i bytes total lt h so_far
+ends reader refusal.NotImage front count i bytes total lt h so_far =
+    loops.ends reader module_refusal.NotModule front count i bytes total lt h so_far
 
 -- one part more that is written
 pub text-next : {A : Type 0} (part : A → List ℕ) (xs : List A) (k : ℕ) (x : A) (front old mid new : List ℕ) → slice_get xs k ≡ Some x

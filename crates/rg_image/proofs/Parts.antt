@@ -24,7 +24,8 @@ use Rattle.rg_image.specs.Inner.Reading.{count_at, counted_at, int_at, truth_at,
 use Rattle.rg_image.specs.Inner.Reading.{label_at, cell_at, cargo_at, held_at, content_behind, content_at}
 
 -- which way a test went
-choose : {A : Type 0} (n k : ℕ) (r others : Option A) (y : A) → cond (eqb n k) r others ≡ Some y → ((n ≡ k) × (r ≡ Some y)) ⊎ (others ≡ Some y)
+choose : {A : Type 0} (n k : ℕ) (r others : Option A) (y : A) → cond (eqb n k) r others ≡ Some y
+    → ((n ≡ k) × (r ≡ Some y)) ⊎ (others ≡ Some y)
 choose n k r others y = by_test (eqb n k) refl
   where
     by_test : (b : Truth) → eqb n k ≡ b → cond b r others ≡ Some y → ((n ≡ k) × (r ≡ Some y)) ⊎ (others ≡ Some y)
@@ -45,8 +46,8 @@ module _ {A : Type 0} {reader : List ℕ → Option (A × List ℕ)} {text : A �
   as_many [] = omega arith
   as_many (x ∷ xs) = grows (length xs) (text x) (flat_map text xs) (some x) (as_many xs)
 
-  counted_takes : (bytes : List ℕ) (x : List A × List ℕ) → IsBytes bytes → counted_at reader bytes ≡ Some x → Takes bytes (counted text x.0) x.1
-      × Counted Fits x.0
+  counted_takes : (bytes : List ℕ) (x : List A × List ℕ) → IsBytes bytes → counted_at reader bytes ≡ Some x
+      → Takes bytes (counted text x.0) x.1 × Counted Fits x.0
   unfolding counted_at count_at
   counted_takes bytes x fits e =
       let a = bind_some (count_at bytes) (λ n. many_at reader n.0 n.1) x e in
@@ -65,7 +66,8 @@ module _ {A : Type 0} {reader : List ℕ → Option (A × List ℕ)} {text : A �
   counted_again xs rest fits =
       let behind : List ℕ = flat_map text xs ++ rest in
       let regrouped : counted text xs ++ rest ≡ eight (length xs) ++ behind = append_assoc (eight (length xs)) (flat_map text xs) rest in
-      let there : ltb (length (flat_map text xs ++ rest)) (length xs) ≡ false = le-ltb _ _ (omega (arith, as_many xs, length-append (flat_map text xs) rest)) in
+      let there : ltb (length (flat_map text xs ++ rest)) (length xs) ≡ false =
+      le-ltb _ _ (omega (arith, as_many xs, length-append (flat_map text xs) rest)) in
       ap (counted_at reader) regrouped
       ∙ ap (λ r. (r >>= λ (n : ℕ × List ℕ). cond (ltb (length n.1) n.0) None (Some n)) >>= λ (n : ℕ × List ℕ). many_at reader n.0 n.1)
       (reads_eight.again (length xs) behind fits.0)
@@ -77,7 +79,8 @@ module _ {A : Type 0} {reader : List ℕ → Option (A × List ℕ)} {text : A �
 
 -- a part that is read for another value, behind a byte that says so
 behind_byte : {A B : Type 0} {reader : List ℕ → Option (A × List ℕ)} {text : A → List ℕ} {Fits : A → Type 0} (one : Reads reader text Fits)
-    (f : A → B) (whole : B → List ℕ) (FitsWhole : B → Type 0) (n : ℕ) → ((a : A) → whole (f a) ≡ n ∷ text a) → ((a : A) → Fits a → FitsWhole (f a))
+    (f : A → B) (whole : B → List ℕ) (FitsWhole : B → Type 0) (n : ℕ) → ((a : A) → whole (f a) ≡ n ∷ text a)
+    → ((a : A) → Fits a → FitsWhole (f a))
     → (bytes : List ℕ) (x : B × List ℕ) → IsBytes bytes → (reader bytes >>= λ y. Some (f y.0, y.1)) ≡ Some x
     → Takes (n ∷ bytes) (whole x.0) x.1 × FitsWhole x.0
 behind_byte {A} {B} {reader} {text} {Fits} one f whole FitsWhole n same fit bytes x fits e =
@@ -101,7 +104,8 @@ value_behind_takes n bytes x fits e =
     let Whole : ℕ → Val × List ℕ → Type 0 = λ k y. Takes (k ∷ bytes) (value_bytes y.0) y.1 × FitsValue y.0 in
     let none : Val × List ℕ = (Nil, bytes) in
     elim (choose n 0 (Some none) _ x e) [
-      | inl p ↦ subst (λ (k : ℕ). Whole k x) (sym p.0) (subst (Whole 0) (some_is none x p.1) (record { parts = refl; rest_fits = fits }, tt))
+      | inl p ↦ subst (λ (k : ℕ). Whole k x) (sym p.0)
+          (subst (Whole 0) (some_is none x p.1) (record { parts = refl; rest_fits = fits }, tt))
       | inr f ↦ elim (choose n 1 (int_at bytes) _ x f) [
         | inl p ↦ subst (λ (k : ℕ). Whole k x) (sym p.0)
             (behind_byte reads_signed Int value_bytes FitsValue 1 (λ i. refl) (λ i h. h) bytes x fits p.1)
@@ -117,7 +121,8 @@ value_behind_takes n bytes x fits e =
       ]
     ]
 
-value_takes : (bytes : List ℕ) (x : Val × List ℕ) → IsBytes bytes → value_at bytes ≡ Some x → Takes bytes (value_bytes x.0) x.1 × FitsValue x.0
+value_takes : (bytes : List ℕ) (x : Val × List ℕ) → IsBytes bytes → value_at bytes ≡ Some x
+    → Takes bytes (value_bytes x.0) x.1 × FitsValue x.0
 unfolding value_at
 value_takes [] x fits e = absurd cc
 value_takes (n ∷ bytes) x fits e = value_behind_takes n bytes x (IsBytes-rest n bytes fits) e
@@ -153,12 +158,14 @@ label_behind_takes n bytes x fits e =
       | inl p ↦ subst (λ (k : ℕ). Whole k x) (sym p.0)
           (behind_byte reads_eight Region label_bytes FitsLabel 0 (λ r. refl) (λ r h. h) bytes x fits p.1)
       | inr f ↦ elim (choose n 1 (Some frozen) None x f) [
-        | inl p ↦ subst (λ (k : ℕ). Whole k x) (sym p.0) (subst (Whole 1) (some_is frozen x p.1) (record { parts = refl; rest_fits = fits }, tt))
+        | inl p ↦ subst (λ (k : ℕ). Whole k x) (sym p.0)
+            (subst (Whole 1) (some_is frozen x p.1) (record { parts = refl; rest_fits = fits }, tt))
         | inr g ↦ absurd cc
       ]
     ]
 
-label_takes : (bytes : List ℕ) (x : Label × List ℕ) → IsBytes bytes → label_at bytes ≡ Some x → Takes bytes (label_bytes x.0) x.1 × FitsLabel x.0
+label_takes : (bytes : List ℕ) (x : Label × List ℕ) → IsBytes bytes → label_at bytes ≡ Some x
+    → Takes bytes (label_bytes x.0) x.1 × FitsLabel x.0
 unfolding label_at
 label_takes [] x fits e = absurd cc
 label_takes (n ∷ bytes) x fits e = label_behind_takes n bytes x (IsBytes-rest n bytes fits) e
@@ -174,7 +181,8 @@ reads_label = record { takes = label_takes; again = label_again }
 
 -- Objects
 
-cell_takes : (bytes : List ℕ) (x : CargoCell × List ℕ) → IsBytes bytes → cell_at bytes ≡ Some x → Takes bytes (cell_bytes x.0) x.1 × FitsCell x.0
+cell_takes : (bytes : List ℕ) (x : CargoCell × List ℕ) → IsBytes bytes → cell_at bytes ≡ Some x
+    → Takes bytes (cell_bytes x.0) x.1 × FitsCell x.0
 unfolding cell_at
 cell_takes bytes x fits e =
     let a = bind_some (number_at w32 bytes) (λ c. label_at c.1 >>= λ l. counted_at value_at l.1 >>= λ vs.
@@ -188,7 +196,7 @@ cell_takes bytes x fits e =
     let e12 = Takes-then a.0.1 (label_bytes b.0.0) b.0.1 (counted value_bytes c.0.0) c.0.1 t1.0 t2.0 in
     let e02 = Takes-then bytes (four a.0.0) a.0.1 (label_bytes b.0.0 ++ counted value_bytes c.0.0) c.0.1 t0.0 e12 in
     let made : CargoCell × List ℕ = (record { class = a.0.0; label = b.0.0; fields = c.0.0 }, c.0.1) in
-    subst (λ (y : CargoCell × List ℕ). Takes bytes (cell_bytes y.0) y.1 × FitsCell y.0) (some_is made x c.2)
+    subst (λ (y : CargoCell × List ℕ). Takes bytes (cell_bytes y.0) y.1 × FitsCell y.0) {x = made} (some_is made x c.2)
     (e02, record { class = t0.1; label = t1.1; fields = t2.1 })
 
 cell_again : (c : CargoCell) (rest : List ℕ) → FitsCell c → cell_at (cell_bytes c ++ rest) ≡ Some (c, rest)
@@ -227,11 +235,12 @@ reads_managers = reads_counted reads_manager some_manager
 
 -- A cargo, and a content
 
-cargo_takes : (bytes : List ℕ) (x : CargoList × List ℕ) → IsBytes bytes → cargo_at bytes ≡ Some x → Takes bytes (cargo_bytes x.0) x.1 × FitsCargo x.0
+cargo_takes : (bytes : List ℕ) (x : CargoList × List ℕ) → IsBytes bytes → cargo_at bytes ≡ Some x
+    → Takes bytes (cargo_bytes x.0) x.1 × FitsCargo x.0
 unfolding cargo_at
 cargo_takes bytes x fits e =
-    let a = bind_some (counted_at manager_at bytes) (λ ms. counted_at cell_at ms.1 >>= λ cs. Some (record { cells = cs.0; managers = ms.0 }, cs.1))
-    x e in
+    let a = bind_some (counted_at manager_at bytes)
+    (λ ms. counted_at cell_at ms.1 >>= λ cs. Some (record { cells = cs.0; managers = ms.0 }, cs.1)) x e in
     let b = bind_some (counted_at cell_at a.0.1) (λ cs. Some (record { cells = cs.0; managers = a.0.0 }, cs.1)) x a.2 in
     let t0 = reads_managers.takes bytes a.0 fits a.1 in
     let t1 = reads_cells.takes a.0.1 b.0 t0.0.rest_fits b.1 in
@@ -245,7 +254,8 @@ unfolding cargo_at
 cargo_again c rest fits =
     let last = counted cell_bytes c.cells ++ rest in
     ap cargo_at (append_assoc (counted manager_bytes c.managers) (counted cell_bytes c.cells) rest)
-    ∙ ap (λ r. r >>= λ (ms : List Manager × List ℕ). counted_at cell_at ms.1 >>= λ cs. Some (record { cells = cs.0; managers = ms.0 }, cs.1))
+    ∙ ap
+    (λ r. r >>= λ (ms : List Manager × List ℕ). counted_at cell_at ms.1 >>= λ cs. Some (record { cells = cs.0; managers = ms.0 }, cs.1))
     (reads_managers.again c.managers last fits.managers)
     ∙ ap (λ r. r >>= λ (cs : List CargoCell × List ℕ). Some (record { cells = cs.0; managers = c.managers }, cs.1))
     (reads_cells.again c.cells rest fits.cells)
@@ -260,7 +270,8 @@ content_behind_takes n bytes x fits e =
     let Whole : ℕ → Option CargoList × List ℕ → Type 0 = λ k y. Takes (k ∷ bytes) (content_bytes y.0) y.1 × FitsContent y.0 in
     let none : Option CargoList × List ℕ = (None, bytes) in
     elim (choose n 0 (Some none) _ x e) [
-      | inl p ↦ subst (λ (k : ℕ). Whole k x) (sym p.0) (subst (Whole 0) (some_is none x p.1) (record { parts = refl; rest_fits = fits }, tt))
+      | inl p ↦ subst (λ (k : ℕ). Whole k x) (sym p.0)
+          (subst (Whole 0) (some_is none x p.1) (record { parts = refl; rest_fits = fits }, tt))
       | inr f ↦ elim (choose n 1 (held_at bytes) None x f) [
         | inl p ↦ subst (λ (k : ℕ). Whole k x) (sym p.0)
             (behind_byte reads_cargo Some content_bytes FitsContent 1 (λ c. refl) (λ c h. h) bytes x fits p.1)
@@ -268,8 +279,8 @@ content_behind_takes n bytes x fits e =
       ]
     ]
 
-content_takes : (bytes : List ℕ) (x : Option CargoList × List ℕ) → IsBytes bytes → content_at bytes ≡ Some x → Takes bytes (content_bytes x.0) x.1
-    × FitsContent x.0
+content_takes : (bytes : List ℕ) (x : Option CargoList × List ℕ) → IsBytes bytes → content_at bytes ≡ Some x
+    → Takes bytes (content_bytes x.0) x.1 × FitsContent x.0
 unfolding content_at
 content_takes [] x fits e = absurd cc
 content_takes (n ∷ bytes) x fits e = content_behind_takes n bytes x (IsBytes-rest n bytes fits) e

@@ -49,7 +49,8 @@ third false b false d e h = h
 cargo_fits : (c : CargoList) → SoundCargo c → RangedCargo c → FitsCargo c
 cargo_fits c sound ranged =
     let named =
-    third (is_in 0 (label_of c.cells 0)) (comes_to (length c.cells) (named_from 0 1 c.cells)) (comes_to (length c.managers) (regions_named 0 c.cells))
+    third (is_in 0 (label_of c.cells 0)) (comes_to (length c.cells) (named_from 0 1 c.cells))
+    (comes_to (length c.managers) (regions_named 0 c.cells))
     (list_all (λ (x : CargoCell). frozen_fits c.cells x.label x.fields) c.cells)
     (list_all (is_entered c.cells) (range_with_len 0 (length c.managers))) sound in
     let m = comes (length c.managers) (regions_named 0 c.cells) named in

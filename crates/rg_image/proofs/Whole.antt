@@ -56,7 +56,8 @@ image_takes bytes content fits e =
     let t0 = magic_takes bytes a.0 fits a.1 in
     let t1 = reads_content.takes a.0 b.0 t0.rest_fits b.1 in
     let nothing : b.0.1 ≡ [] = nil_from_length b.0.1 (eqb-true _ _ g.0) in
-    let all : a.0 ≡ content_bytes b.0.0 = t1.0.parts ∙ ap (λ (y : List ℕ). content_bytes b.0.0 ++ y) nothing ∙ append-nil (content_bytes b.0.0) in
+    let all : a.0 ≡ content_bytes b.0.0 =
+    t1.0.parts ∙ ap (λ (y : List ℕ). content_bytes b.0.0 ++ y) nothing ∙ append-nil (content_bytes b.0.0) in
     subst (λ (c : Option CargoList). (bytes ≡ image_text c) × FitsContent c) (some_is b.0.0 content g.1)
     (t0.parts ∙ ap (λ (y : List ℕ). codes "RGI1" ++ y) all, t1.1)
 
@@ -88,8 +89,8 @@ decoded t bytes content fits read is =
     let p = image_takes bytes content fits read in
     record { text = p.0; numbers = p.1; fits = is }
 
-pub again : (t : Tree) (bytes : List ℕ) (content : Option CargoList) → Read bytes content → (other : Option CargoList) → IsImage t bytes other
-    → content ≡ other
+pub again : (t : Tree) (bytes : List ℕ) (content : Option CargoList) → Read bytes content → (other : Option CargoList)
+    → IsImage t bytes other → content ≡ other
 again t bytes content read other is = some_is content other (sym read ∙ read_again t bytes other is)
 
 -- bytes of which nothing was read
@@ -101,8 +102,8 @@ pub refused : (t : Tree) (bytes : List ℕ) (e : Refusal) → Fails e (image_at 
 refused t bytes refusal.NotImage read = unread t bytes read
 refused t bytes refusal.Memory read = tt
 
-pub refused-again : (t : Tree) (bytes : List ℕ) (e : Refusal) → Fails e (image_at bytes) → (content : Option CargoList) → IsImage t bytes content
-    → Answers (Err e) content
+pub refused-again : (t : Tree) (bytes : List ℕ) (e : Refusal) → Fails e (image_at bytes) → (content : Option CargoList)
+    → IsImage t bytes content → Answers (Err e) content
 refused-again t bytes refusal.NotImage read content is = unread t bytes read content is
 refused-again t bytes refusal.Memory read content is = tt
 
@@ -114,8 +115,8 @@ unsound t bytes c read fails content is =
     let fits : IsContent t (Some c) = subst (IsContent t) (sym same) is.fits in
     false≢true (sym fails ∙ fits.0)
 
-pub untyped : (t : Tree) (bytes : List ℕ) (c : CargoList) → Read bytes (Some c) → is_typed t.classes c ≡ false → (content : Option CargoList)
-    → IsImage t bytes content → ⊥
+pub untyped : (t : Tree) (bytes : List ℕ) (c : CargoList) → Read bytes (Some c) → is_typed t.classes c ≡ false
+    → (content : Option CargoList) → IsImage t bytes content → ⊥
 untyped t bytes c read fails content is =
     let same : Some c ≡ content = again t bytes (Some c) read content is in
     let fits : IsContent t (Some c) = subst (IsContent t) (sym same) is.fits in

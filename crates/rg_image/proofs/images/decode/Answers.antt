@@ -11,7 +11,8 @@ returns-in-Err-clause-again c = refused-again (program_of c.args.program.now) c.
 
 pub returns-in_default-clause-image : goal.returns-in_default-clause-image
 returns-in_default-clause-image c =
-    decoded (program_of c.args.program.now) c.args.bytes.now None (λ i. omega (arith, c.type_inv.bytes i)) (c.in-Ok.ensures ∙ ap Some c.in_default.is) tt
+    decoded (program_of c.args.program.now) c.args.bytes.now None (λ i. omega (arith, c.type_inv.bytes i))
+    (c.in-Ok.ensures ∙ ap Some c.in_default.is) tt
 
 pub returns-in_default-clause-again : goal.returns-in_default-clause-again
 returns-in_default-clause-again c =

@@ -14,8 +14,8 @@ pub loop-preserved : goal.loop-preserved
 loop-preserved c =
     let total = many_at manager_at c.args.count c.args.bytes.now in
     rw c.in-Ok.ensures.ok (record {
-      read = goes_on manager_at c.loop.cargo.managers c.args.count c.loop.counter c.loop.rest.now c.in-Some.manager c.in-Some.after.now total
-          c.loop-test.true c.in-Some.ensures c.loop.invariant.read;
+      read = goes_on manager_at c.loop.cargo.managers c.args.count c.loop.counter c.loop.rest.now c.in-Some.manager c.in-Some.after.now
+          total c.loop-test.true c.in-Some.ensures c.loop.invariant.read;
       cells = c.loop.invariant.cells;
     })
 
