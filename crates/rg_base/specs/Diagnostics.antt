@@ -3,6 +3,7 @@ use Rattle.std.specs.Prelude.{ℕ, List, [], ◌∷◌, ◌++◌, codes, decimal
 use Rattle.rg_base.specs.declared.fault.Code.{Code}
 use Rattle.rg_base.specs.declared.fault.Code.TheVariants.{Byte, Number, Name, Syntax, Nesting, Limit, Unknown, Duplicate, BadType, Mismatch}
 use Rattle.rg_base.specs.declared.fault.Code.TheVariants.{Unavailable, Capability, OutsideWindow, Loop, Arity, IsoField, Return, CallTarget}
+use Rattle.rg_base.specs.declared.fault.Code.TheVariants.{Module, Unverified, Plan, Schedule, Image}
 use Rattle.rg_base.specs.declared.fault.Fault.{Fault}
 
 -- a code with its word
@@ -25,6 +26,11 @@ code_text Arity = codes "E35 arity"
 code_text IsoField = codes "E36 iso field"
 code_text Return = codes "E37 return"
 code_text CallTarget = codes "E38 call target"
+code_text Module = codes "E91 module"
+code_text Unverified = codes "E92 unverified"
+code_text Plan = codes "E93 plan"
+code_text Schedule = codes "E94 schedule"
+code_text Image = codes "E95 image"
 
 -- a fault, with its line and the end of the line
 abbrev pub fault_text : Fault → List ℕ

@@ -43,9 +43,19 @@ pub enum Code {
     Return,
     /// `E38 call target`: a call whose result goes into a field
     CallTarget,
+    /// `E91 module`: bytes that spell no module
+    Module,
+    /// `E92 unverified`: a module that no program raises
+    Unverified,
+    /// `E93 plan`: a line of a plan that breaks its rules
+    Plan,
+    /// `E94 schedule`: a number of a schedule that is malformed or names no behaviour
+    Schedule,
+    /// `E95 image`: bytes that are the image of no content that the program may hold
+    Image,
 }
 
-/// A diagnostic at a line, counted from 1.
+/// A diagnostic at a line, counted from 1; a module, and a plan or image as a whole, has line 0.
 #[derive(Clone, Copy, Debug, PartialEq, Eq)]
 pub struct Fault {
     pub code: Code,

@@ -31,6 +31,11 @@ pub fn code_text(code: Code) -> &'static [u8]
         Code::IsoField => b"E36 iso field",
         Code::Return => b"E37 return",
         Code::CallTarget => b"E38 call target",
+        Code::Module => b"E91 module",
+        Code::Unverified => b"E92 unverified",
+        Code::Plan => b"E93 plan",
+        Code::Schedule => b"E94 schedule",
+        Code::Image => b"E95 image",
     }
 }
 
