@@ -1,17 +1,10 @@
--- The serials of held cells after a place changes.
+-- The serials of held cells after a slot changes.
 use Rattle.std.proofs.Common.{◌≡◌, ◌≢◌, ℕ, ◌+◌, ◌-◌, ◌≤◌, Option, Some, None, get_or, refl, ap, sym, ◌∙◌, arith}
 use Rattle.std.proofs.Common.{List, [], ◌∷◌, zero, suc, set, ◌⊎◌, inl, inr}
 use Rattle.std.proofs.lemmas.Bool.{cases_eq}
 use Rattle.std.proofs.lemmas.Option.{same_Some}
-use Rattle.slab.specs.Slab.{Slab, get, with_value, Updates}
 use Rattle.rg_cells.specs.declared.cell.Body.{Body}
-use Rattle.rg_cells.specs.declared.cell.Cell.{Cell}
-use Rattle.rg_cells.specs.declared.cell.Place.{Place}
-use Rattle.rg_cells.specs.declared.cell.Place.TheVariants.{Held, Free}
-use Rattle.rg_cells.specs.Table.{Heap, body_in, body_at, Serials, IsNewest, freed}
-use Rattle.rg_cells.specs.Inner.Places.{shown, table_of}
-use Rattle.rg_cells.proofs.Shown.{shown-at}
-use Rattle.rg_cells.proofs.Listed.{written}
+use Rattle.rg_cells.specs.Table.{Heap, body_in, body_at, with_body, Serials, IsNewest, freed}
 
 -- each held cell of the one heap is held in the other, with the same serial
 pub serials_of : (h g : Heap) → h.next ≤ g.next
@@ -25,61 +18,39 @@ serials_of h g le was q = record {
       q.differ s o x.0 y.0 x.1 y.1 (x.2 ∙ same ∙ sym y.2);
 }
 
-body-shown : (xs : List (Option Place)) (next s : ℕ)
-    → body_at (table_of xs next).heap s ≡ body_in (shown (get_or xs s None))
-body-shown xs next s = ap body_in (shown-at xs s)
+-- what is held after a slot is written: there what was put, and elsewhere what was held
+put_at : (xs : List (Option (Option Body))) (slot s : ℕ) (v : Option (Option Body)) (b : Body)
+    → body_in (get_or (set xs slot v) s None) ≡ Some b
+    → ((s ≡ slot) × (body_in v ≡ Some b)) ⊎ (body_in (get_or xs s None) ≡ Some b)
+put_at [] slot s v b e = inr e
+put_at (x ∷ xs) zero zero v b e = inl (refl, e)
+put_at (x ∷ xs) zero (suc s) v b e = inr e
+put_at (x ∷ xs) (suc slot) zero v b e = inr e
+put_at (x ∷ xs) (suc slot) (suc s) v b e = elim (put_at xs slot s v b e) [ inl p ↦ inl (ap suc p.0, p.1) | inr q ↦ inr q ]
 
--- what is held after an update: at the key what was put, and elsewhere what was held
-after_update : (places new : Slab Place) (next later slot : ℕ) (o : Option Place) → Updates places new slot o
-    → (s : ℕ) (b : Body) → body_at (table_of new.slots later).heap s ≡ Some b
-    → ((s ≡ slot) × (body_in (shown o) ≡ Some b)) ⊎ (body_at (table_of places.slots next).heap s ≡ Some b)
-after_update places new next later slot o u s b e =
-    let now : body_in (shown (get new s)) ≡ Some b = sym (body-shown new.slots later s) ∙ e in
-    elim (cases_eq s slot) [
-      | inl is ↦ inl (is, sym (ap (λ k. body_in (shown (get new k))) is ∙ ap (λ z. body_in (shown z)) u.changed) ∙ now)
-      | inr d ↦ inr (body-shown places.slots next s ∙ sym (ap (λ z. body_in (shown z)) (u.others s d)) ∙ now)
-    ]
-
--- at the key is a cell with the serial of the one before, or none
-written_by : (places new : Slab Place) (next slot : ℕ) (o : Option Place) → Updates places new slot o
-    → ((b : Body) → body_in (shown o) ≡ Some b
-    → (d : Body) × (body_in (shown (get places slot)) ≡ Some d) × (d.serial ≡ b.serial))
-    → Serials (table_of places.slots next).heap → Serials (table_of new.slots next).heap
-written_by places new next slot o u was q =
-    serials_of (table_of places.slots next).heap (table_of new.slots next).heap (omega arith) (λ s b e.
-    elim (after_update places new next next slot o u s b e) [
-      | inl here ↦ let d = was b here.1 in (
-        d.0,
-        body-shown places.slots next s ∙ ap (λ k. body_in (shown (get places k))) here.0 ∙ d.1,
-        d.2,
-      )
-      | inr old ↦ (b, old, refl)
+-- a held slot gets another body with the same serial
+pub serials-put : (h : Heap) (slot : ℕ) (b d : Body) → body_at h slot ≡ Some b → d.serial ≡ b.serial → Serials h → Serials (with_body h slot d)
+serials-put h slot b d e same q = serials_of h (with_body h slot d) (omega arith) (λ s x f.
+    elim (put_at h.slots slot s (Some (Some d)) x f) [
+      | inl here ↦ (b, ap (body_at h) here.0 ∙ e, sym same ∙ ap (λ (y : Body). y.serial) (same_Some d x here.1))
+      | inr old ↦ (x, old, refl)
     ]) q
 
--- a held place holds another cell with the same serial
-pub serials-put : (places : Slab Place) (next slot : ℕ) (c d : Cell) → get places slot ≡ Some (Held c)
-    → d.body.serial ≡ c.body.serial → Serials (table_of places.slots next).heap
-    → Serials (table_of (with_value places slot (Held d)).slots next).heap
-serials-put places next slot c d e same q =
-    written_by places (with_value places slot (Held d)) next slot (Some (Held d)) (written places slot c (Held d) e)
-    (λ b f. (c.body, ap (λ o. body_in (shown o)) e, sym same ∙ ap (λ (x : Body). x.serial) (same_Some d.body b f))) q
-
--- a held place becomes free
-pub serials-freed : (places : Slab Place) (next slot : ℕ) (c : Cell) → get places slot ≡ Some (Held c)
-    → Serials (table_of places.slots next).heap
-    → Serials (table_of (with_value places slot Free).slots next).heap
-serials-freed places next slot c e q =
-    written_by places (with_value places slot Free) next slot (Some Free) (written places slot c Free e)
-    (λ b f. let no : None ≡ Some b = f in cc) q
+-- a slot becomes free
+pub serials-freed : (h : Heap) (slot : ℕ) → Serials h → Serials (freed h slot)
+serials-freed h slot q = serials_of h (freed h slot) (omega arith) (λ s x f.
+    elim (put_at h.slots slot s (Some None) x f) [
+      | inl here ↦ let no : None ≡ Some x = here.1 in cc
+      | inr old ↦ (x, old, refl)
+    ]) q
 
 -- a cell comes with the next serial
-pub serials-made : (places new : Slab Place) (next slot : ℕ) (c : Cell) → c.body.serial ≡ next
-    → Updates places new slot (Some (Held c)) → Serials (table_of places.slots next).heap
-    → Serials (table_of new.slots (next + 1)).heap
-serials-made places new next slot c is u q = record {
+pub serials-made : (h g : Heap) (slot : ℕ) (c : Body) → c.serial ≡ h.next → g.next ≡ h.next + 1 → body_at g slot ≡ Some c
+    → ((other : ℕ) → other ≢ slot → get_or g.slots other None ≡ get_or h.slots other None) → Serials h → Serials g
+serials-made h g slot c is next body others q = record {
   below = λ s b e. elim (after s b e) [
-    | inl here ↦ let n = serial_is b here.1 in omega (arith, n)
-    | inr old ↦ let l = q.below s b old in omega (arith, l)
+    | inl here ↦ let n = serial_is b here.1 in omega (arith, n, next)
+    | inr old ↦ let l = q.below s b old in omega (arith, l, next)
   ];
   differ = λ s o b d e f same. elim (after s b e) [
     | inl x ↦ let n = serial_is b x.1 in elim (after o d f) [
@@ -93,12 +64,14 @@ serials-made places new next slot c is u q = record {
   ];
 }
   where
-    after : (s : ℕ) (b : Body) → body_at (table_of new.slots (next + 1)).heap s ≡ Some b
-        → ((s ≡ slot) × (Some c.body ≡ Some b)) ⊎ (body_at (table_of places.slots next).heap s ≡ Some b)
-    after s b e = after_update places new next (next + 1) slot (Some (Held c)) u s b e
+    after : (s : ℕ) (b : Body) → body_at g s ≡ Some b → ((s ≡ slot) × (Some c ≡ Some b)) ⊎ (body_at h s ≡ Some b)
+    after s b e = elim (cases_eq s slot) [
+      | inl is ↦ inl (is, sym body ∙ sym (ap (body_at g) is) ∙ e)
+      | inr d ↦ inr (sym (ap body_in (others s d)) ∙ e)
+    ]
 
-    serial_is : (b : Body) → Some c.body ≡ Some b → b.serial ≡ next
-    serial_is b e = sym (ap (λ (x : Body). x.serial) (same_Some c.body b e)) ∙ is
+    serial_is : (b : Body) → Some c ≡ Some b → b.serial ≡ h.next
+    serial_is b e = sym (ap (λ (x : Body). x.serial) (same_Some c b e)) ∙ is
 
 pub none_at : (xs : List (Option (Option Body))) (k : ℕ) → body_in (get_or (set xs k (Some None)) k None) ≡ None
 none_at [] k = refl

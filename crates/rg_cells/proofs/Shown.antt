@@ -1,179 +1,20 @@
--- What the places show, place by place.
-use Rattle.std.proofs.Common.{◌≡◌, ◌≢◌, ℕ, ◌+◌, ◌<◌, ◌≤◌, zero, suc, List, [], ◌∷◌, length, map, Option, Some, None, IsSome, IfSome, IfNone}
-use Rattle.std.proofs.Common.{is_some, count_by, get_or, set, refl, ap, sym, ◌∙◌, subst, arith, cond, ◌==◌, if◌then◌else◌}
-use Rattle.std.proofs.lemmas.List.{map-set, length-map, set-set}
+-- What places show, place by place.
+use Rattle.std.proofs.Common.{◌≡◌, ◌≢◌, ℕ, ◌+◌, Bool, true, false, zero, suc, List, [], ◌∷◌, length, map, Option, Some, None, IsSome}
+use Rattle.std.proofs.Common.{is_some, get_or, set, refl, ap, sym, ◌∙◌, subst, arith, cond, if◌then◌else◌}
+use Rattle.std.specs.Prelude.{slice_get, option_map, option_and_then}
+use Rattle.std.proofs.lemmas.List.{map-set}
 use Rattle.std.proofs.lemmas.List.Sums.{sum_by-cons}
 use Rattle.std.proofs.lemmas.Option.{same_Some}
-use Rattle.slab.specs.Slab.{Slab, slab_len, Updates}
-use Rattle.rg_cells.specs.declared.cell.Body.{Body}
-use Rattle.rg_cells.specs.declared.cell.Cell.{Cell}
-use Rattle.rg_cells.specs.declared.cell.Place.{Place}
-use Rattle.rg_cells.specs.declared.cell.Place.TheVariants.{Held, Free}
 use Rattle.rg_base.specs.declared.value.Word.{Word}
 use Rattle.rg_base.specs.declared.object.Label.{Label}
-use Rattle.rg_cells.specs.Table.{Heap, Table, body_in, body_at, IsHeld, width, Made, with_body, with_field, with_label, freed_from}
-use Rattle.rg_cells.specs.Table.{total, one, one_frozen, one_frozen_by, held_count, high_of, traded, exchanged}
-use Rattle.rg_cells.specs.Inner.Places.{shown, mark_of, link_of, table_of}
-
-pub shown-at : (xs : List (Option Place)) (k : ℕ) → get_or (map shown xs) k None ≡ shown (get_or xs k None)
-shown-at [] k = refl
-shown-at (x ∷ xs) zero = refl
-shown-at (x ∷ xs) (suc k) = shown-at xs k
-
-pub mark-at : (xs : List (Option Place)) (k : ℕ) → get_or (map mark_of xs) k 0 ≡ mark_of (get_or xs k None)
-mark-at [] k = refl
-mark-at (x ∷ xs) zero = refl
-mark-at (x ∷ xs) (suc k) = mark-at xs k
-
-pub link-at : (xs : List (Option Place)) (k : ℕ) → get_or (map link_of xs) k None ≡ link_of (get_or xs k None)
-link-at [] k = refl
-link-at (x ∷ xs) zero = refl
-link-at (x ∷ xs) (suc k) = link-at xs k
-
-pub held_place : (o : Option Place) → IsSome (body_in (shown o)) → (c : Cell) × (o ≡ Some (Held c))
-held_place None h = cc
-held_place (Some Free) h = cc
-held_place (Some (Held c)) h = (c, refl)
-
--- a held slot has a cell in its place
-pub held_cell : (xs : List (Option Place)) (next slot : ℕ) → IsHeld (table_of xs next).heap slot → (c : Cell)
-    × (get_or xs slot None ≡ Some (Held c))
-held_cell xs next slot h =
-    let P : Option (Option Body) → Type 0 = λ o. IsSome (body_in o) in
-    held_place (get_or xs slot None) (subst P (shown-at xs slot) h)
-
--- the same of the table that the places are seen as
-pub held_in : (xs : List (Option Place)) (next slot : ℕ) (t : Table) → table_of xs next ≡ t → IsHeld t.heap slot → (c : Cell)
-    × (get_or xs slot None ≡ Some (Held c))
-held_in xs next slot t same h = let P : Table → Type 0 = λ z. IsHeld z.heap slot in held_cell xs next slot (subst P (sym same) h)
-
-pub body-held : (xs : List (Option Place)) (next slot : ℕ) (c : Cell) → get_or xs slot None ≡ Some (Held c)
-    → body_at (table_of xs next).heap slot ≡ Some c.body
-body-held xs next slot c e = ap body_in (shown-at xs slot) ∙ ap (λ o. body_in (shown o)) e
-
-pub within : (xs : List (Option Place)) (slot : ℕ) (c : Cell) → get_or xs slot None ≡ Some (Held c) → slot < length xs
-within [] slot c e = cc
-within (x ∷ xs) zero c e = omega arith
-within (x ∷ xs) (suc slot) c e = omega (arith, within xs slot c e)
-
--- a list that is written as it was
-pub shown-same : (xs : List (Option Place)) (slot : ℕ) (c d : Cell) → get_or xs slot None ≡ Some (Held c) → d.body ≡ c.body
-    → map shown (set xs slot (Some (Held d))) ≡ map shown xs
-shown-same [] slot c d e h = refl
-shown-same (x ∷ xs) zero c d e h = let a : shown x ≡ Some (Some c.body) = ap shown e in
-    ap (λ b. Some (Some b) ∷ map shown xs) h ∙ ap (λ o. o ∷ map shown xs) (sym a)
-shown-same (x ∷ xs) (suc slot) c d e h = ap (λ ys. shown x ∷ ys) (shown-same xs slot c d e h)
-
-pub mark-same : (xs : List (Option Place)) (slot : ℕ) (c d : Cell) → get_or xs slot None ≡ Some (Held c) → d.mark ≡ c.mark
-    → map mark_of (set xs slot (Some (Held d))) ≡ map mark_of xs
-mark-same [] slot c d e h = refl
-mark-same (x ∷ xs) zero c d e h = let a : mark_of x ≡ c.mark = ap mark_of e in ap (λ b. b ∷ map mark_of xs) h ∙ ap (λ o. o ∷ map mark_of xs) (sym a)
-mark-same (x ∷ xs) (suc slot) c d e h = ap (λ ys. mark_of x ∷ ys) (mark-same xs slot c d e h)
-
-pub link-same : (xs : List (Option Place)) (slot : ℕ) (c d : Cell) → get_or xs slot None ≡ Some (Held c) → d.link ≡ c.link
-    → map link_of (set xs slot (Some (Held d))) ≡ map link_of xs
-link-same [] slot c d e h = refl
-link-same (x ∷ xs) zero c d e h = let a : link_of x ≡ c.link = ap link_of e in ap (λ b. b ∷ map link_of xs) h ∙ ap (λ o. o ∷ map link_of xs) (sym a)
-link-same (x ∷ xs) (suc slot) c d e h = ap (λ ys. link_of x ∷ ys) (link-same xs slot c d e h)
-
--- a mark is written
-pub marked : (xs : List (Option Place)) (next slot m : ℕ) (c : Cell) → get_or xs slot None ≡ Some (Held c)
-    → table_of (set xs slot (Some (Held (record c { mark = m })))) next ≡ record (table_of xs next) { marks = set (table_of xs next).marks slot m }
-marked xs next slot m c e =
-    let a = shown-same xs slot c (record c { mark = m }) e refl in
-    let b = link-same xs slot c (record c { mark = m }) e refl in
-    let d = map-set mark_of xs slot (Some (Held (record c { mark = m }))) in
-    ap (λ ys. record {
-      heap = record { slots = ys; next = next };
-      marks = map mark_of (set xs slot (Some (Held (record c { mark = m }))));
-      links =
-          map link_of (set xs slot (Some (Held (record c { mark = m }))));
-    }) a
-    ∙ ap (λ ys. record {
-      heap = record { slots = map shown xs; next = next };
-      marks = ys;
-      links =
-          map link_of (set xs slot (Some (Held (record c { mark = m }))));
-    }) d
-    ∙ ap (λ ys. record { heap = record { slots = map shown xs; next = next }; marks = set (map mark_of xs) slot m; links = ys }) b
-
--- a link is written
-pub linked : (xs : List (Option Place)) (next slot : ℕ) (l : Option ℕ) (c : Cell) → get_or xs slot None ≡ Some (Held c)
-    → table_of (set xs slot (Some (Held (record c { link = l })))) next ≡ record (table_of xs next) { links = set (table_of xs next).links slot l }
-linked xs next slot l c e =
-    let a = shown-same xs slot c (record c { link = l }) e refl in
-    let b = mark-same xs slot c (record c { link = l }) e refl in
-    let d = map-set link_of xs slot (Some (Held (record c { link = l }))) in
-    ap (λ ys. record {
-      heap = record { slots = ys; next = next };
-      marks = map mark_of (set xs slot (Some (Held (record c { link = l }))));
-      links =
-          map link_of (set xs slot (Some (Held (record c { link = l }))));
-    }) a
-    ∙ ap (λ ys. record {
-      heap = record { slots = map shown xs; next = next };
-      marks = ys;
-      links =
-          map link_of (set xs slot (Some (Held (record c { link = l }))));
-    }) b
-    ∙ ap (λ ys. record { heap = record { slots = map shown xs; next = next }; marks = map mark_of xs; links = ys }) d
-
--- another body is written
-pub bodied : (xs : List (Option Place)) (next slot : ℕ) (c : Cell) (b : Body) → get_or xs slot None ≡ Some (Held c)
-    → table_of (set xs slot (Some (Held (record c { body = b })))) next ≡ record (table_of xs next) {
-      heap =
-          record { slots = set (map shown xs) slot (Some (Some b)); next = next };
-    }
-bodied xs next slot c b e =
-    let a = map-set shown xs slot (Some (Held (record c { body = b }))) in
-    let d = mark-same xs slot c (record c { body = b }) e refl in
-    let f = link-same xs slot c (record c { body = b }) e refl in
-    ap (λ ys. record {
-      heap = record { slots = ys; next = next };
-      marks = map mark_of (set xs slot (Some (Held (record c { body = b }))));
-      links =
-          map link_of (set xs slot (Some (Held (record c { body = b }))));
-    }) a
-    ∙ ap (λ ys. record {
-      heap = record { slots = set (map shown xs) slot (Some (Some b)); next = next };
-      marks = ys;
-      links =
-          map link_of (set xs slot (Some (Held (record c { body = b }))));
-    }) d
-    ∙ ap (λ ys. record { heap = record { slots = set (map shown xs) slot (Some (Some b)); next = next }; marks = map mark_of xs; links = ys }) f
-
-shown-some : (x : Option Place) → is_some (shown x) ≡ is_some x
-shown-some None = refl
-shown-some (Some Free) = refl
-shown-some (Some (Held c)) = refl
-
-pub count-shown : (xs : List (Option Place)) → count_by is_some (map shown xs) ≡ count_by is_some xs
-count-shown [] = refl
-count-shown (x ∷ xs) =
-    let ih : count_by is_some (map shown xs) ≡ count_by is_some xs = count-shown xs in
-    sum_by-cons (λ o. cond (is_some o) 1 0) (shown x) (map shown xs) ∙ ap (λ n. cond (is_some (shown x)) 1 0 + n) ih
-    ∙ ap (λ b. cond b 1 0 + count_by is_some xs) (shown-some x) ∙ sym (sum_by-cons (λ o. cond (is_some o) 1 0) x xs)
-
--- the marks and links have as many places
-pub within-marks : (xs : List (Option Place)) (next slot : ℕ) (c : Cell) → get_or xs slot None ≡ Some (Held c)
-    → slot < length (table_of xs next).marks
-within-marks xs next slot c e = omega (arith, within xs slot c e, length-map xs mark_of)
-
-pub within-links : (xs : List (Option Place)) (next slot : ℕ) (c : Cell) → get_or xs slot None ≡ Some (Held c)
-    → slot < length (table_of xs next).links
-within-links xs next slot c e = omega (arith, within xs slot c e, length-map xs link_of)
-
--- a cell that has a field of that number
-pub wide_cell : (xs : List (Option Place)) (next slot k : ℕ) → k < width (body_at (table_of xs next).heap slot) → (c : Cell)
-    × (get_or xs slot None ≡ Some (Held c)) × (k < length c.body.fields)
-wide_cell xs next slot k h =
-    let P : Option (Option Body) → Type 0 = λ o. k < width (body_in o) in
-    wide_place (get_or xs slot None) (subst P (shown-at xs slot) h)
-  where
-    wide_place : (o : Option Place) → k < width (body_in (shown o)) → (c : Cell) × (o ≡ Some (Held c)) × (k < length c.body.fields)
-    wide_place None h = absurd (omega arith)
-    wide_place (Some Free) h = absurd (omega arith)
-    wide_place (Some (Held c)) h = (c, refl, h)
+use Rattle.rg_cells.specs.declared.cell.Body.{Body}
+use Rattle.rg_cells.specs.declared.cell.Cell.{Cell}
+use Rattle.rg_cells.specs.declared.cell.Beside.{Beside}
+use Rattle.rg_cells.specs.Table.{Heap, Table, body_in, body_at, IsHeld, Made, with_body, with_field, with_label, freed_from}
+use Rattle.rg_cells.specs.Table.{one, held_count, high_of, traded, exchanged}
+use Rattle.rg_cells.specs.Inner.Layout.{few_of, is_free, index_in, label_in}
+use Rattle.rg_cells.specs.Inner.Places.{index_of, list_at, fields_of, body_of, shown, mark_of, link_of, table_of, frees, Links, Labels, Clears}
+use Rattle.rg_cells.proofs.Lists.{get-map, got, or-map, or-same, map-kept, within}
 
 pub field-of : (h : Heap) (slot k : ℕ) (w : Word) (b : Body) → body_at h slot ≡ Some b
     → with_field h slot k w ≡ with_body h slot (record b { fields = set b.fields k w })
@@ -183,130 +24,236 @@ pub label-of : (h : Heap) (slot : ℕ) (l : Label) (b : Body) → body_at h slot
     → with_label h slot l ≡ with_body h slot (record b { label = l })
 label-of h slot l b e = ap (λ (o : Option Body). elim o [ None ↦ h | Some b ↦ with_body h slot (record b { label = l }) ]) e
 
-pub field-put : (xs : List (Option Place)) (next slot k : ℕ) (w : Word) (c : Cell) → get_or xs slot None ≡ Some (Held c)
-    → table_of (set xs slot (Some (Held (record c { body = record c.body { fields = set c.body.fields k w } })))) next ≡ record (table_of xs next)
-    { heap = with_field (table_of xs next).heap slot k w }
-field-put xs next slot k w c e =
-    let b : Body = record c.body { fields = set c.body.fields k w } in
-    let q : with_field (table_of xs next).heap slot k w ≡ with_body (table_of xs next).heap slot b =
-    field-of (table_of xs next).heap slot k w c.body (body-held xs next slot c e) in
-    bodied xs next slot c b e ∙ ap (λ z. record (table_of xs next) { heap = z }) (sym q)
+-- what a place shows of a cell
+abbrev worn : List Beside → Cell → Option Body
+worn bs c = if is_free c.state then None else Some (body_of bs c)
 
-pub label-put : (xs : List (Option Place)) (next slot : ℕ) (l : Label) (c : Cell) → get_or xs slot None ≡ Some (Held c)
-    → table_of (set xs slot (Some (Held (record c { body = record c.body { label = l } })))) next ≡ record (table_of xs next) {
-      heap =
-          with_label (table_of xs next).heap slot l;
+body-told : (bs : List Beside) (cells : List Cell) (slot : ℕ)
+    → body_in (get_or (map (shown bs) cells) slot None) ≡ option_and_then (worn bs) (slice_get cells slot)
+body-told bs [] slot = refl
+body-told bs (c ∷ cells) zero = refl
+body-told bs (c ∷ cells) (suc slot) = body-told bs cells slot
+
+-- a held slot has a cell that isn't free
+pub held_cell : (cells : List Cell) (bs : List Beside) (next slot : ℕ) → IsHeld (table_of cells bs next).heap slot
+    → (c : Cell) × (slice_get cells slot ≡ Some c) × (is_free c.state ≡ false)
+held_cell cells bs next slot h =
+    let P : Option Body → Type 0 = λ o. IsSome o in
+    by_place (slice_get cells slot) (subst P (body-told bs cells slot) h)
+  where
+    by_state : (b : Bool) (x : Body) → IsSome (if b then None else Some x) → b ≡ false
+    by_state true x h = cc
+    by_state false x h = refl
+
+    by_place : (o : Option Cell) → IsSome (option_and_then (worn bs) o) → (c : Cell) × (o ≡ Some c) × (is_free c.state ≡ false)
+    by_place None h = cc
+    by_place (Some c) h = (c, refl, by_state (is_free c.state) (body_of bs c) h)
+
+-- the same of the table that the places are seen as
+pub held_in : (cells : List Cell) (bs : List Beside) (next slot : ℕ) (t : Table) → table_of cells bs next ≡ t → IsHeld t.heap slot
+    → (c : Cell) × (slice_get cells slot ≡ Some c) × (is_free c.state ≡ false)
+held_in cells bs next slot t same h =
+    let P : Table → Type 0 = λ z. IsHeld z.heap slot in held_cell cells bs next slot (subst P (sym same) h)
+
+-- a held place that was read
+pub held_read : (cells : List Cell) (bs : List Beside) (next slot : ℕ) (t : Table) → table_of cells bs next ≡ t → IsHeld t.heap slot
+    → (c : Cell) → c ≡ get_or cells slot c → (slice_get cells slot ≡ Some c) × (is_free c.state ≡ false)
+held_read cells bs next slot t same h c is =
+    let p = held_in cells bs next slot t same h in
+    let e = got cells slot c (within cells slot p.0 p.1) is in
+    (e, ap (λ (z : Cell). is_free z.state) (same_Some c p.0 (sym e ∙ p.1)) ∙ p.2)
+
+-- what a held place shows
+pub body-held : (cells : List Cell) (bs : List Beside) (next slot : ℕ) (c : Cell) → slice_get cells slot ≡ Some c → is_free c.state ≡ false
+    → body_at (table_of cells bs next).heap slot ≡ Some (body_of bs c)
+body-held cells bs next slot c e f =
+    let s : worn bs c ≡ Some (body_of bs c) = ap (λ b. if b then None else Some (body_of bs c)) f in
+    body-told bs cells slot ∙ ap (option_and_then (worn bs)) e ∙ s
+
+-- a free one, or a slot without a place, shows nothing
+pub body-free : (cells : List Cell) (bs : List Beside) (next slot : ℕ) (c : Cell) → slice_get cells slot ≡ Some c → is_free c.state ≡ true
+    → body_at (table_of cells bs next).heap slot ≡ None
+body-free cells bs next slot c e f =
+    let s : worn bs c ≡ None = ap (λ b. if b then None else Some (body_of bs c)) f in
+    body-told bs cells slot ∙ ap (option_and_then (worn bs)) e ∙ s
+
+pub body-past : (cells : List Cell) (bs : List Beside) (next slot : ℕ) → slice_get cells slot ≡ None
+    → body_at (table_of cells bs next).heap slot ≡ None
+body-past cells bs next slot e = body-told bs cells slot ∙ ap (option_and_then (worn bs)) e
+
+abbrev body_with : Cell → List Word → Body
+body_with c fs = record { class = c.class; label = label_in c.state c.number; serial = c.serial; fields = fs }
+
+-- a cell shows the same where its fields beside do
+pub shown-agree : (bs ds : List Beside) (c : Cell) → ((j : ℕ) → index_of c ≡ Some j → list_at ds j ≡ list_at bs j) → shown ds c ≡ shown bs c
+shown-agree bs ds c h = by_state (is_free c.state) (index_in c.kinds c.words) h
+  where
+    by_state : (b : Bool) (o : Option ℕ) → ((j : ℕ) → (if b then None else o) ≡ Some j → list_at ds j ≡ list_at bs j)
+        → Some (if b then None else Some (body_with c (elim o [ None ↦ few_of c.kinds c.words | Some j ↦ list_at ds j ])))
+        ≡ Some (if b then None else Some (body_with c (elim o [ None ↦ few_of c.kinds c.words | Some j ↦ list_at bs j ])))
+    by_state true o h = refl
+    by_state false None h = refl
+    by_state false (Some j) h = ap (λ fs. Some (Some (body_with c fs))) (h j refl)
+
+abbrev one_if : Bool → ℕ
+one_if b = if b then 1 else 0
+
+-- the number of places, and of held ones
+pub high-is : (cells : List Cell) (bs : List Beside) (next : ℕ) → high_of (table_of cells bs next).heap ≡ length cells
+high-is [] bs next = refl
+high-is (c ∷ cells) bs next =
+    sum_by-cons (λ o. cond (is_some o) 1 0) (shown bs c) (map (shown bs) cells) ∙ ap (λ n. 1 + n) (high-is cells bs next)
+    ∙ omega arith
+
+pub held-is : (cells : List Cell) (bs : List Beside) (next : ℕ) → held_count (table_of cells bs next).heap + frees cells ≡ length cells
+held-is [] bs next = refl
+held-is (c ∷ cells) bs next = let ih = held-is cells bs next in let l = by_state (is_free c.state) (body_of bs c) in omega (arith, ih, l)
+  where
+    by_state : (b : Bool) (x : Body) → one (if b then None else Some x) + one_if b ≡ 1
+    by_state true x = refl
+    by_state false x = refl
+
+-- maps that agree at each element
+pub map-agree : {Y : Type 0} (f g : Cell → Y) (xs : List Cell) → ((i : ℕ) (x : Cell) → slice_get xs i ≡ Some x → g x ≡ f x)
+    → map g xs ≡ map f xs
+map-agree f g [] h = refl
+map-agree f g (y ∷ xs) h =
+    ap (λ z. z ∷ map g xs) (h 0 y refl) ∙ ap (λ zs. f y ∷ zs) (map-agree f g xs (λ i x q. h (suc i) x q))
+
+-- a list that is written at a place is mapped there to what is wanted, and elsewhere as before by another map
+pub map-put : {Y : Type 0} (f g : Cell → Y) (xs : List Cell) (slot : ℕ) (c d : Cell) (v : Y) → slice_get xs slot ≡ Some c → g d ≡ v
+    → ((i : ℕ) (x : Cell) → i ≢ slot → slice_get xs i ≡ Some x → g x ≡ f x) → map g (set xs slot d) ≡ set (map f xs) slot v
+map-put f g [] slot c d v e h others = refl
+map-put f g (y ∷ xs) zero c d v e h others =
+    ap (λ z. z ∷ map g xs) h ∙ ap (λ zs. v ∷ zs) (map-agree f g xs (λ i x q. others (suc i) x (omega arith) q))
+map-put f g (y ∷ xs) (suc slot) c d v e h others =
+    ap (λ z. z ∷ map g (set xs slot d)) (others 0 y (omega arith) refl)
+    ∙ ap (λ zs. f y ∷ zs) (map-put f g xs slot c d v e h (λ i x n q. others (suc i) x (λ r. n (omega (arith, r))) q))
+
+-- Of a held cell that is written. A mark:
+pub marked : (cells : List Cell) (bs : List Beside) (next slot m : ℕ) (c : Cell) → slice_get cells slot ≡ Some c
+    → table_of (set cells slot (record c { mark = m })) bs next ≡ record (table_of cells bs next) { marks = set (map mark_of cells) slot m }
+marked cells bs next slot m c e =
+    let d : Cell = record c { mark = m } in
+    let x : map (shown bs) (set cells slot d) ≡ map (shown bs) cells = map-kept (shown bs) cells slot c d e refl in
+    let y : map mark_of (set cells slot d) ≡ set (map mark_of cells) slot m = map-set mark_of cells slot d in
+    let z : map link_of (set cells slot d) ≡ map link_of cells = map-kept link_of cells slot c d e refl in
+    rw (x, y, z) refl
+
+-- a link:
+pub linked : (cells : List Cell) (bs : List Beside) (next slot : ℕ) (l : Option ℕ) (c d : Cell) → slice_get cells slot ≡ Some c → Links c d l
+    → table_of (set cells slot d) bs next ≡ record (table_of cells bs next) { links = set (map link_of cells) slot l }
+linked cells bs next slot l c d e h =
+    let same : d ≡ record c { state = h.0; link = h.1 } = h.2 in
+    let s : shown bs d ≡ shown bs c =
+    ap (shown bs) same
+    ∙ ap (λ b. Some (if b then None else Some (record {
+      class = c.class;
+      label = label_in h.0 c.number;
+      serial = c.serial;
+      fields = fields_of bs c;
+    }))) h.3
+    ∙ ap (λ f. Some (if is_free c.state then None else Some (record {
+      class = c.class;
+      label = f c.number;
+      serial = c.serial;
+      fields = fields_of bs c;
+    }))) h.4 in
+    let m : mark_of d ≡ mark_of c = ap mark_of same in
+    let x : map (shown bs) (set cells slot d) ≡ map (shown bs) cells = map-kept (shown bs) cells slot c d e s in
+    let y : map mark_of (set cells slot d) ≡ map mark_of cells = map-kept mark_of cells slot c d e m in
+    let z : map link_of (set cells slot d) ≡ set (map link_of cells) slot l =
+    map-set link_of cells slot d ∙ ap (λ o. set (map link_of cells) slot o) h.5 in
+    rw (x, y, z) refl
+
+-- a label:
+pub labelled : (cells : List Cell) (bs : List Beside) (next slot : ℕ) (l : Label) (c d : Cell) → slice_get cells slot ≡ Some c
+    → is_free c.state ≡ false → Labels c d l
+    → table_of (set cells slot d) bs next ≡ record (table_of cells bs next) { heap = with_label (table_of cells bs next).heap slot l }
+labelled cells bs next slot l c d e f h =
+    let same : d ≡ record c { state = h.0; number = h.1 } = h.2 in
+    let b : Body = record (body_of bs c) { label = l } in
+    let s : shown bs d ≡ Some (Some b) =
+    ap (shown bs) same
+    ∙ ap (λ x. Some (if x then None else Some (record {
+      class = c.class;
+      label = label_in h.0 h.1;
+      serial = c.serial;
+      fields = fields_of bs c;
+    }))) h.3
+    ∙ ap (λ y. Some (Some (record { class = c.class; label = y; serial = c.serial; fields = fields_of bs c }))) h.4 in
+    let k : link_of d ≡ link_of c = ap link_of same ∙ ap (λ x. if x then Some c.link else None) h.5 in
+    let m : mark_of d ≡ mark_of c = ap mark_of same in
+    let x : map (shown bs) (set cells slot d) ≡ set (map (shown bs) cells) slot (Some (Some b)) =
+    map-set (shown bs) cells slot d ∙ ap (λ o. set (map (shown bs) cells) slot o) s in
+    let y : map mark_of (set cells slot d) ≡ map mark_of cells = map-kept mark_of cells slot c d e m in
+    let z : map link_of (set cells slot d) ≡ map link_of cells = map-kept link_of cells slot c d e k in
+    let q = label-of (table_of cells bs next).heap slot l (body_of bs c) (body-held cells bs next slot c e f) in
+    rw (x, y, z, q) refl
+
+-- a field, in the cell itself or beside: the slot's cell shows it, and each other one shows what it showed
+pub fielded : (cells new : List Cell) (bs ds : List Beside) (next slot k : ℕ) (w : Word) (c d : Cell) → slice_get cells slot ≡ Some c
+    → is_free c.state ≡ false → new ≡ set cells slot d → mark_of d ≡ mark_of c → link_of d ≡ link_of c
+    → shown ds d ≡ Some (Some (record (body_of bs c) { fields = set (fields_of bs c) k w }))
+    → ((i : ℕ) (x : Cell) → i ≢ slot → slice_get cells i ≡ Some x → shown ds x ≡ shown bs x)
+    → table_of new ds next ≡ record (table_of cells bs next) { heap = with_field (table_of cells bs next).heap slot k w }
+fielded cells new bs ds next slot k w c d e f is m l s others =
+    let b : Body = record (body_of bs c) { fields = set (fields_of bs c) k w } in
+    let x : map (shown ds) (set cells slot d) ≡ set (map (shown bs) cells) slot (Some (Some b)) =
+    map-put (shown bs) (shown ds) cells slot c d (Some (Some b)) e s others in
+    let y : map mark_of (set cells slot d) ≡ map mark_of cells = map-kept mark_of cells slot c d e m in
+    let z : map link_of (set cells slot d) ≡ map link_of cells = map-kept link_of cells slot c d e l in
+    let q = field-of (table_of cells bs next).heap slot k w (body_of bs c) (body-held cells bs next slot c e f) in
+    rw (is, x, y, z, q) refl
+
+-- a cell is made at a slot, and all others show what they showed
+pub made : (cells new : List Cell) (bs ds : List Beside) (next later slot : ℕ) (c : Cell) → slice_get new slot ≡ Some c → is_free c.state ≡ false
+    → c.mark ≡ 0 → link_of c ≡ None → ((i : ℕ) → i ≢ slot → slice_get new i ≡ slice_get cells i)
+    → ((i : ℕ) (x : Cell) → slice_get cells i ≡ Some x → shown ds x ≡ shown bs x)
+    → Made (table_of cells bs next) (table_of new ds later) slot (body_of ds c)
+made cells new bs ds next later slot c at f m l others agree =
+    let same : map (shown ds) cells ≡ map (shown bs) cells = map-agree (shown bs) (shown ds) cells agree in
+    record {
+      body = body-held new ds later slot c at f;
+      others = λ i d. or-same (map (shown ds) new) (map (shown bs) cells) i None
+          (get-map (shown ds) new i ∙ ap (option_map (shown ds)) (others i d) ∙ sym (get-map (shown ds) cells i)
+          ∙ ap (λ xs. slice_get xs i) same);
+      mark = or-map mark_of 0 new slot c at ∙ m;
+      marks = λ i d. or-same (map mark_of new) (map mark_of cells) i 0
+          (get-map mark_of new i ∙ ap (option_map mark_of) (others i d) ∙ sym (get-map mark_of cells i));
+      link = or-map link_of None new slot c at ∙ l;
+      links = λ i d. or-same (map link_of new) (map link_of cells) i None
+          (get-map link_of new i ∙ ap (option_map link_of) (others i d) ∙ sym (get-map link_of cells i));
     }
-label-put xs next slot l c e =
-    let b : Body = record c.body { label = l } in
-    let q : with_label (table_of xs next).heap slot l ≡ with_body (table_of xs next).heap slot b =
-    label-of (table_of xs next).heap slot l c.body (body-held xs next slot c e) in
-    bodied xs next slot c b e ∙ ap (λ z. record (table_of xs next) { heap = z }) (sym q)
 
-pub free-put : (xs : List (Option Place)) (next slot : ℕ) → table_of (set xs slot (Some Free)) next ≡ freed_from (table_of xs next) slot
-free-put xs next slot =
-    let a : map shown (set xs slot (Some Free)) ≡ set (map shown xs) slot (Some None) = map-set shown xs slot (Some Free) in
-    let b : map mark_of (set xs slot (Some Free)) ≡ set (map mark_of xs) slot 0 = map-set mark_of xs slot (Some Free) in
-    let d : map link_of (set xs slot (Some Free)) ≡ set (map link_of xs) slot None = map-set link_of xs slot (Some Free) in
-    ap (λ ys. record {
-      heap = record { slots = ys; next = next };
-      marks = map mark_of (set xs slot (Some Free));
-      links =
-          map link_of (set xs slot (Some Free));
-    }) a
-    ∙ ap (λ ys. record {
-      heap = record { slots = set (map shown xs) slot (Some None); next = next };
-      marks = ys;
-      links =
-          map link_of (set xs slot (Some Free));
-    }) b
-    ∙ ap (λ ys. record {
-      heap = record { slots = set (map shown xs) slot (Some None); next = next };
-      marks = set (map mark_of xs) slot 0;
-      links =
-          ys;
-    }) d
+-- a cell is given up
+pub cleared : (cells : List Cell) (bs : List Beside) (next slot free : ℕ) (d : Cell) → Clears d free
+    → table_of (set cells slot d) bs next ≡ freed_from (table_of cells bs next) slot
+cleared cells bs next slot free d h =
+    let s : shown bs d ≡ Some None = ap (λ b. Some (if b then None else Some (body_of bs d))) h.free in
+    let x : map (shown bs) (set cells slot d) ≡ set (map (shown bs) cells) slot (Some None) =
+    map-set (shown bs) cells slot d ∙ ap (λ o. set (map (shown bs) cells) slot o) s in
+    let y : map mark_of (set cells slot d) ≡ set (map mark_of cells) slot 0 =
+    map-set mark_of cells slot d ∙ ap (λ m. set (map mark_of cells) slot m) h.mark in
+    let z : map link_of (set cells slot d) ≡ set (map link_of cells) slot None =
+    map-set link_of cells slot d ∙ ap (λ o. set (map link_of cells) slot o) h.link in
+    rw (x, y, z) refl
 
-pub part-le : (f : Option Body → ℕ) → f None ≡ 0 → (xs : List (Option (Option Body))) (k : ℕ) → f (body_in (get_or xs k None)) ≤ total f xs
-part-le f z [] k = omega (arith, z)
-part-le f z (x ∷ xs) zero = omega arith
-part-le f z (x ∷ xs) (suc k) = omega (arith, part-le f z xs k)
+-- the cells at two slots change places, and their fields beside stay
+pub traded-is : {Y : Type 0} (f : Cell → Y) (z : Y) (cells : List Cell) (a b : ℕ) (c d : Cell) → slice_get cells a ≡ Some c → slice_get cells b ≡ Some d
+    → map f (set (set cells a d) b c) ≡ traded z (map f cells) a b
+traded-is f z cells a b c d e g =
+    map-set f (set cells a d) b c ∙ ap (λ us. set us b (f c)) (map-set f cells a d)
+    ∙ ap (λ o. set (set (map f cells) a o) b (f c)) (sym (or-map f z cells b d g))
+    ∙ ap (λ o. set (set (map f cells) a (get_or (map f cells) b z)) b o) (sym (or-map f z cells a c e))
 
-pub one_if_frozen-le : (h : Heap) (slot : ℕ) (b : Body) → body_at h slot ≡ Some b → one_frozen_by b.label ≤ total one_frozen h.slots
-one_if_frozen-le h slot b e = let p = part-le one_frozen refl h.slots slot in
-    let q : one_frozen (body_at h slot) ≡ one_frozen_by b.label = ap one_frozen e in omega (arith, p, q)
-
-pub wide-le : (h : Heap) (slot : ℕ) (b : Body) → body_at h slot ≡ Some b → length b.fields ≤ total width h.slots
-wide-le h slot b e = let p = part-le width refl h.slots slot in let q : width (body_at h slot) ≡ length b.fields = ap width e in omega (arith, p, q)
-
-pub same_body : (xs : List (Option Place)) (next slot : ℕ) (c : Cell) (b : Body) → get_or xs slot None ≡ Some (Held c)
-    → body_at (table_of xs next).heap slot ≡ Some b → c.body ≡ b
-same_body xs next slot c b e f = same_Some (c.body) b (sym (body-held xs next slot c e) ∙ f)
-
-pub made : (places new : Slab Place) (next later slot : ℕ) (c : Cell) → c.mark ≡ 0 → c.link ≡ None → Updates places new slot (Some (Held c))
-    → Made (table_of places.slots next) (table_of new.slots later) slot c.body
-made places new next later slot c m l u = record {
-  body = ap body_in (shown-at new.slots slot) ∙ ap (λ o. body_in (shown o)) u.changed;
-  others = λ k d. shown-at new.slots k ∙ ap shown (u.others k d) ∙ sym (shown-at places.slots k);
-  mark = mark-at new.slots slot ∙ ap mark_of u.changed ∙ m;
-  marks = λ k d. mark-at new.slots k ∙ ap mark_of (u.others k d) ∙ sym (mark-at places.slots k);
-  link = link-at new.slots slot ∙ ap link_of u.changed ∙ l;
-  links = λ k d. link-at new.slots k ∙ ap link_of (u.others k d) ∙ sym (link-at places.slots k);
-}
-
--- the number of slots ever held, after a cell is made
-pub high-made : (places new : Slab Place) (next later : ℕ) (now : Table) → table_of places.slots next ≡ now
-    → slab_len new ≡ (if total one (map shown places.slots) == slab_len places then slab_len places + 1 else slab_len places)
-    → high_of (table_of new.slots later).heap ≡ (if held_count now.heap == high_of now.heap then high_of now.heap + 1 else high_of now.heap)
-high-made places new next later now e l =
-    let P : Table → Type 0 = λ t. high_of (table_of new.slots later).heap ≡ (if held_count t.heap == high_of t.heap then high_of t.heap + 1 else
-    high_of t.heap) in
-    subst P e (count-shown new.slots ∙ l ∙ ap (λ n. if total one (map shown places.slots) == n then n + 1 else n) (sym (count-shown places.slots)))
-
--- what was found in the places, of the table
-pub find-some : (xs : List (Option Place)) (next serial : ℕ) (now : Table) (r : Option ℕ) → table_of xs next ≡ now
-    → IfSome r (λ slot. (c : Cell) × (get_or xs slot None ≡ Some (Held c)) × (c.body.serial ≡ serial))
-    → IfSome r (λ slot. (b : Body) × (body_at now.heap slot ≡ Some b) × (b.serial ≡ serial))
-find-some xs next serial now None e h = h
-find-some xs next serial now (Some slot) e h =
-    let P : Table → Type 0 = λ t. body_at t.heap slot ≡ Some h.0.body in
-    (h.0.body, subst P e (body-held xs next slot h.0 h.1), h.2)
-
-pub find-none : (xs : List (Option Place)) (next serial : ℕ) (now : Table) (r : Option ℕ) → table_of xs next ≡ now
-    → IfNone r ((slot : ℕ) (c : Cell) → get_or xs slot None ≡ Some (Held c) → c.body.serial ≢ serial)
-    → IfNone r ((slot : ℕ) (b : Body) → body_at now.heap slot ≡ Some b → b.serial ≢ serial)
-find-none xs next serial now (Some slot) e h = h
-find-none xs next serial now None e h = λ slot b f q.
-    let P : Table → Type 0 = λ t. body_at t.heap slot ≡ Some b in
-    let g : body_at (table_of xs next).heap slot ≡ Some b = subst P (sym e) f in
-    let S : IsSome (body_at (table_of xs next).heap slot) = rw g refl in
-    let c = held_cell xs next slot S in
-    h slot c.0 c.1 (ap (λ (x : Body). x.serial) (same_body xs next slot c.0 b c.1 g) ∙ q)
-
--- two places are emptied, and get each other's cell
-pub refilled : (xs : List (Option Place)) (a b : ℕ) (x y v w : Option Place) → a ≢ b
-    → set (set (set (set xs a x) b y) a v) b w ≡ set (set xs a v) b w
-refilled [] a b x y v w d = refl
-refilled (z ∷ xs) zero zero x y v w d = absurd (d refl)
-refilled (z ∷ xs) zero (suc b) x y v w d = ap (λ ys. v ∷ ys) (set-set xs b y w)
-refilled (z ∷ xs) (suc a) zero x y v w d = ap (λ ys. w ∷ ys) (set-set xs a x v)
-refilled (z ∷ xs) (suc a) (suc b) x y v w d = ap (λ ys. z ∷ ys) (refilled xs a b x y v w (λ e. d (ap suc e)))
-
--- of what the places show, two entries change places
-map-traded : {X : Type 0} → (f : Option Place → X) (z : X) → ((us : List (Option Place)) (k : ℕ) → get_or (map f us) k z ≡ f (get_or us k None))
-    → (xs : List (Option Place)) (a b : ℕ) (c d : Option Place) → get_or xs a None ≡ c → get_or xs b None ≡ d
-    → map f (set (set xs a d) b c) ≡ traded z (map f xs) a b
-map-traded f z at xs a b c d e g =
-    map-set f (set xs a d) b c ∙ ap (λ us. set us b (f c)) (map-set f xs a d)
-    ∙ ap (λ o. set (set (map f xs) a o) b (f c)) (sym (at xs b ∙ ap f g))
-    ∙ ap (λ o. set (set (map f xs) a (get_or (map f xs) b z)) b o) (sym (at xs a ∙ ap f e))
-
--- the cells at two places change places
-pub exchanged-is : (xs : List (Option Place)) (next a b : ℕ) (c d : Option Place) → get_or xs a None ≡ c → get_or xs b None ≡ d
-    → table_of (set (set xs a d) b c) next ≡ exchanged (table_of xs next) a b
-exchanged-is xs next a b c d e f =
-    let zs : List (Option Place) = set (set xs a d) b c in
-    let s : map shown zs ≡ traded None (map shown xs) a b = map-traded shown None shown-at xs a b c d e f in
-    let m : map mark_of zs ≡ traded 0 (map mark_of xs) a b = map-traded mark_of 0 mark-at xs a b c d e f in
-    let l : map link_of zs ≡ traded None (map link_of xs) a b = map-traded link_of None link-at xs a b c d e f in
-    rw (s, m, l) refl
+pub exchanged-is : (cells : List Cell) (bs ds : List Beside) (next a b : ℕ) (c d : Cell) → slice_get cells a ≡ Some c → slice_get cells b ≡ Some d
+    → ((j : ℕ) → list_at ds j ≡ list_at bs j) → table_of (set (set cells a d) b c) ds next ≡ exchanged (table_of cells bs next) a b
+exchanged-is cells bs ds next a b c d e f same =
+    let new : List Cell = set (set cells a d) b c in
+    let k : map (shown ds) new ≡ map (shown bs) new =
+    map-agree (shown bs) (shown ds) new (λ i x q. shown-agree bs ds x (λ j r. same j)) in
+    let s : map (shown bs) new ≡ traded None (map (shown bs) cells) a b = traded-is (shown bs) None cells a b c d e f in
+    let m : map mark_of new ≡ traded 0 (map mark_of cells) a b = traded-is mark_of 0 cells a b c d e f in
+    let l : map link_of new ≡ traded None (map link_of cells) a b = traded-is link_of None cells a b c d e f in
+    rw (k ∙ s, m, l) refl

@@ -1,2 +1,4 @@
 -- What joins the private layers of this crate; no clause of a public call cites it.
+pub mod Layout
 pub mod Places
+pub mod Counts

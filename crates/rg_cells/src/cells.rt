@@ -1,6 +1,6 @@
 //! The table of cells (docs/architecture.md, "Cells").
 
-ghost use Rattle.std.specs.Prelude.{◌≡◌, ◌+◌, ◌-◌, ◌^◌, ◌<◌, [], Some};
+ghost use Rattle.std.specs.Prelude.{◌≡◌, ◌+◌, ◌-◌, ◌^◌, ◌<◌, ◌≤◌, [], Some, true, false};
 ghost use Rattle.std.specs.Prelude.{IfSome, IfNone, IfOk, OnOk, OnErr, length, option_map};
 ghost use Rattle.std.specs.Prelude.{slice_set};
 ghost use Rattle.rg_cells.specs.declared.cell.Body.{Body as BodyOf};
@@ -12,12 +12,10 @@ ghost use Rattle.rg_cells.specs.Table.{LacksSerial, Serials};
 ghost use Rattle.rg_cells.specs.Table.{Made, Takes, IsNewest, held_count, frozen_count};
 ghost use Rattle.rg_cells.specs.Table.{one_frozen_by};
 ghost use Rattle.rg_cells.specs.Table.{field_total, high_of, high_after};
+ghost use Rattle.rg_cells.specs.Replacing.{ReplacesPlain};
 
-use crate::cell::{Body, Cell, Place};
-use crate::fields::Fields;
-use crate::places;
+use crate::places::Places;
 use rg_base::{Label, Memory, Steps, Word};
-use slab::Slab;
 use std::alloc::Global;
 use std::marker::Model;
 use std::sync::ledger::Ledger;
@@ -25,24 +23,20 @@ use std::sync::ledger::Ledger;
 /// Cells under slots. A freed cell's place stays, and is taken again before a new one is made.
 pub struct Cells {
     alloc: Global,
-    places: Slab<Place>,
-    free: Vec<usize>,
-    next: u64,
+    places: Places,
     frozen: u64,
     words: u64,
 }
 
 impl Model for Cells {
-    ghost use Rattle.std.specs.Prelude.{vec_capacity};
     ghost use Rattle.rg_cells.specs.Table.{Table, Serials};
-    ghost use Rattle.rg_cells.specs.Inner.Places.{table_of, Kept, Counts};
+    ghost use Rattle.rg_cells.specs.Inner.Counts.{Counts};
 
     ghost Value = { Table };
 
-    ghost view = { λ s. table_of s.places.slots s.next };
+    ghost view = { λ s. s.places };
 
-    ghost invariant = { λ s. Kept s.places s.free.items (vec_capacity s.free)
-        × Counts s.places s.frozen s.words × Serials (table_of s.places.slots s.next).heap };
+    ghost invariant = { λ s. Counts s.places.heap s.frozen s.words × Serials s.places.heap };
 }
 
 /// Written out, so that no crate above proves how each cell is dropped.
@@ -51,8 +45,6 @@ impl Drop for Cells {
         let Cells {
             alloc: _,
             places: _,
-            free: _,
-            next: _,
             frozen: _,
             words: _,
         } = self;
@@ -69,68 +61,68 @@ impl Cells {
     {
         Cells {
             alloc,
-            places: Slab::new(alloc),
-            free: Vec::new(alloc),
-            next: 0,
+            places: Places::new(alloc),
             frozen: 0,
             words: 0,
         }
     }
 
-    /// The cell at a held slot.
-    fn cell(&self, slot: usize) -> &Cell
-        requires { IsHeld self.now.heap slot }
-        ensures body { body_at self.now.heap slot ≡ Some result.now.body }
-        ensures mark { mark_at self.now slot ≡ result.now.mark }
-        ensures link { link_at self.now slot ≡ result.now.link }
-    {
-        match self.places.get(slot) {
-            Some(Place::Held(cell)) => cell,
-            _ => unreachable!(),
-        }
-    }
-
     /// The class of a held cell.
+    #[inline]
     pub fn class(&self, slot: usize) -> u32
         requires { IsHeld self.now.heap slot }
         ensures { option_map (λ (b : BodyOf). b.class) (body_at self.now.heap slot) ≡ Some result }
     {
-        self.cell(slot).body.class
+        self.places.cell(slot).class
     }
 
     /// To what a held cell belongs.
+    #[inline]
     pub fn label(&self, slot: usize) -> Label
         requires { IsHeld self.now.heap slot }
         ensures { label_at self.now.heap slot ≡ Some result }
     {
-        self.cell(slot).body.label
+        self.places.cell(slot).label()
     }
 
     /// The serial of a held cell.
+    #[inline]
     pub fn serial(&self, slot: usize) -> u64
         requires { IsHeld self.now.heap slot }
         ensures { option_map (λ (b : BodyOf). b.serial) (body_at self.now.heap slot) ≡ Some result }
     {
-        self.cell(slot).body.serial
+        self.places.cell(slot).serial
     }
 
     /// The number of fields of a held cell.
+    #[inline]
     pub fn field_count(&self, slot: usize) -> u32
         requires { IsHeld self.now.heap slot }
         ensures { result ≡ width (body_at self.now.heap slot) }
     {
-        self.cell(slot).body.fields.len()
+        self.places.field_count(slot)
     }
 
     /// A field of a held cell.
+    #[inline]
     pub fn field(&self, slot: usize, k: u32) -> Word
         requires { k < width (body_at self.now.heap slot) }
         ensures { field_at self.now.heap slot k ≡ Some result }
     {
-        self.cell(slot).body.fields.get(k)
+        self.places.field(slot, k)
+    }
+
+    /// A field of a held cell, if there are so many.
+    #[inline(always)]
+    pub fn element(&self, slot: usize, index: usize) -> Option<Word>
+        requires { IsHeld self.now.heap slot }
+        ensures { result ≡ field_at self.now.heap slot index }
+    {
+        self.places.element(slot, index)
     }
 
     /// Reads a field, which is one step.
+    #[inline]
     pub fn look<L: Ledger>(&self, slot: usize, k: u32, steps: &mut Steps<L>) -> Word
         requires { k < width (body_at self.now.heap slot) }
         ensures value { field_at self.now.heap slot k ≡ Some result }
@@ -141,45 +133,76 @@ impl Cells {
     }
 
     /// The link of a held cell.
+    #[inline]
     pub fn link(&self, slot: usize) -> Option<usize>
         requires { IsHeld self.now.heap slot }
         ensures { result ≡ link_at self.now slot }
     {
-        self.cell(slot).link
+        self.places.cell(slot).link()
     }
 
     /// The mark of a held cell.
+    #[inline]
     pub fn mark(&self, slot: usize) -> u64
         requires { IsHeld self.now.heap slot }
         ensures { result ≡ mark_at self.now slot }
     {
-        self.cell(slot).mark
+        self.places.cell(slot).mark
     }
 
     /// Sets the mark of a held cell.
+    #[inline]
     pub fn set_mark(&mut self, slot: usize, m: u64)
         requires { IsHeld self.old.heap slot }
         ensures set { self.new ≡ record self.old { marks = slice_set self.old.marks slot m } }
         ensures within { slot < length self.old.marks }
     {
-        places::put_mark(&mut self.places, slot, m);
+        self.places.put_mark(slot, m);
     }
 
     /// Sets the link of a held cell.
+    #[inline]
     pub fn set_link(&mut self, slot: usize, next: Option<usize>)
         requires { IsHeld self.old.heap slot }
         ensures set { self.new ≡ record self.old { links = slice_set self.old.links slot next } }
         ensures within { slot < length self.old.links }
     {
-        places::put_link(&mut self.places, slot, next);
+        self.places.put_link(slot, next);
     }
 
     /// Writes a field of a held cell.
+    #[inline]
     pub fn set_field(&mut self, slot: usize, k: u32, w: Word)
         requires { k < width (body_at self.old.heap slot) }
         ensures { self.new ≡ record self.old { heap = with_field self.old.heap slot k w } }
     {
-        places::put_field(&mut self.places, slot, k, w);
+        self.places.put_field(slot, k, w);
+    }
+
+    /// Writes a field of a held cell where that is quick: there are so many and it led nowhere.
+    /// Answers whether it did.
+    #[inline(always)]
+    pub fn replace_plain(&mut self, slot: usize, index: usize, w: Word) -> bool
+        requires { IsHeld self.old.heap slot }
+        ensures { ReplacesPlain result self.old self.new slot index w }
+    {
+        self.places.replace_plain(slot, index, w)
+    }
+
+    /// Writes a field of a held cell, if there are so many; answers whether there are.
+    #[inline]
+    pub fn put_element(&mut self, slot: usize, index: usize, w: Word) -> bool
+        requires { IsHeld self.old.heap slot }
+        ensures put { result ≡ true → (index < width (body_at self.old.heap slot))
+            × (self.new ≡ record self.old { heap = with_field self.old.heap slot index w }) }
+        ensures lacks { result ≡ false → (width (body_at self.old.heap slot) ≤ index)
+            × (self.new ≡ self.old) }
+    {
+        if index >= self.field_count(slot) as usize {
+            return false;
+        }
+        self.set_field(slot, index as u32, w);
+        true
     }
 
     /// Gives a held cell another label.
@@ -187,8 +210,10 @@ impl Cells {
         requires { IsHeld self.old.heap slot }
         ensures { self.new ≡ record self.old { heap = with_label self.old.heap slot label } }
     {
-        let was = one_if_frozen(self.cell(slot).body.label);
-        places::put_label(&mut self.places, slot, label);
+        let was = one_if_frozen(self.places.cell(slot).label());
+        self.places.put_label(slot, label);
+        // as many can be counted
+        let _ = self.places.held();
         self.frozen = self.frozen - was + one_if_frozen(label);
     }
 
@@ -199,7 +224,7 @@ impl Cells {
         ensures exchanged { self.new ≡ exchanged self.old a b }
         ensures within { IsListed self.old a × IsListed self.old b }
     {
-        places::exchange(&mut self.places, a, b);
+        self.places.exchange(a, b);
     }
 
     /// Holds a new cell, in a slot that was held before where one is free.
@@ -217,25 +242,16 @@ impl Cells {
         ensures fields { OnOk result (field_total self.new.heap < 2 ^ 64 - 1) }
         ensures err { OnErr result (self.new ≡ self.old) }
     {
-        if self.next >= u64::MAX - 1 {
+        if self.places.next() >= u64::MAX - 1 {
             return Err(Memory);
         }
         let more = fields.len() as u64;
         if more >= u64::MAX - self.words {
             return Err(Memory);
         }
-        let cell = Cell {
-            body: Body {
-                class,
-                label,
-                serial: self.next,
-                fields: Fields::of(self.alloc, fields)?,
-            },
-            link: None,
-            mark: 0,
-        };
-        let slot = places::hold(&mut self.places, &mut self.free, cell)?;
-        self.next += 1;
+        let slot = self.places.hold(self.alloc, class, label, fields)?;
+        // as many can be counted
+        let _ = self.places.held();
         self.words += more;
         self.frozen += one_if_frozen(label);
         Ok(slot)
@@ -246,10 +262,9 @@ impl Cells {
         requires { IsHeld self.old.heap slot }
         ensures { self.new ≡ freed_from self.old slot }
     {
-        let cell = self.cell(slot);
-        let was = one_if_frozen(cell.body.label);
-        let less = cell.body.fields.len() as u64;
-        places::give_up(&mut self.places, &mut self.free, slot);
+        let was = one_if_frozen(self.places.cell(slot).label());
+        let less = u64::from(self.places.field_count(slot));
+        self.places.give_up(slot);
         self.frozen -= was;
         self.words -= less;
     }
@@ -259,9 +274,10 @@ impl Cells {
         requires { IsNewest self.old.heap slot }
         ensures { self.new ≡ cancelled self.old slot }
     {
-        let next = self.made();
+        // no other cell has that serial
+        let _ = self.made();
         self.free(slot);
-        self.next = next - 1;
+        self.places.step_back();
     }
 
     /// The slot of the held cell with a serial.
@@ -269,7 +285,7 @@ impl Cells {
         ensures some { IfSome result (λ slot. HasSerial self.now.heap slot serial) }
         ensures none { IfNone result (LacksSerial self.now.heap serial) }
     {
-        places::find(&self.places, serial)
+        self.places.find(serial)
     }
 
     /// The number of different slots that were ever held.
@@ -283,7 +299,7 @@ impl Cells {
     pub fn held(&self) -> u64
         ensures { result ≡ held_count self.now.heap }
     {
-        (self.places.len() - self.free.len()) as u64
+        self.places.held() as u64
     }
 
     /// The number of frozen cells.
@@ -302,11 +318,12 @@ impl Cells {
     }
 
     /// The next serial, which is above those of all held cells.
+    #[inline]
     pub fn made(&self) -> u64
         ensures value { result ≡ self.now.heap.next }
         ensures serials { Serials self.now.heap }
     {
-        self.next
+        self.places.next()
     }
 }
 

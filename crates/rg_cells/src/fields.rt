@@ -1,19 +1,16 @@
-//! The fields of a cell (docs/architecture.md, "Cells").
+//! The fields of a cell that has many (docs/architecture.md, "Cells").
 
 ghost use Rattle.std.specs.Prelude.{◌≡◌, ◌<◌, ◌^◌, length, slice_get, slice_set, Some, IfOk};
+ghost use Rattle.rg_cells.specs.Inner.Layout.{ReplacesIn};
 
 use rg_base::{Memory, Word};
-use smallvec::SmallVec;
 use std::alloc::Global;
 use std::marker::Model;
-
-/// How many fields stand in the cell itself. A cell with more takes one allocation for them.
-const FEW: usize = 3;
 
 /// The fields of a cell, in the order of its class; contracts see the list.
 #[derive(Drop)]
 pub struct Fields {
-    items: SmallVec<Word, FEW>,
+    items: Vec<Word>,
 }
 
 impl Model for Fields {
@@ -35,13 +32,14 @@ impl Fields {
         if words.len() > 4_294_967_295 {
             return Err(Memory);
         }
-        match SmallVec::from_slice(alloc, words) {
+        match Vec::from_slice(alloc, words) {
             Ok(items) => Ok(Fields { items }),
             Err(_) => Err(Memory),
         }
     }
 
     /// The number of fields.
+    #[inline(always)]
     pub fn len(&self) -> u32
         ensures value { result ≡ length self.now }
         ensures within { length self.now < 2 ^ 32 }
@@ -50,18 +48,47 @@ impl Fields {
     }
 
     /// A field by its number, counted from 0.
+    #[inline(always)]
     pub fn get(&self, k: u32) -> Word
         requires { k < length self.now }
         ensures { slice_get self.now k ≡ Some result }
     {
-        self.items.as_slice()[k as usize]
+        self.items[k as usize]
+    }
+
+    /// A field by its number, if there are so many.
+    #[inline(always)]
+    pub fn element(&self, index: usize) -> Option<Word>
+        ensures { slice_get self.now index ≡ result }
+    {
+        if index < self.items.len() {
+            Some(self.items[index])
+        } else {
+            None
+        }
+    }
+
+    /// Writes a field, if there are so many and it led nowhere; answers whether it did.
+    #[inline(always)]
+    pub fn replace_plain(&mut self, index: usize, w: Word) -> bool
+        ensures { ReplacesIn result self.old self.new index w }
+    {
+        if index >= self.items.len() {
+            return false;
+        }
+        if let Word::Slot(_) = self.items[index] {
+            return false;
+        }
+        self.items[index] = w;
+        true
     }
 
     /// Writes a field.
+    #[inline(always)]
     pub fn set(&mut self, k: u32, w: Word)
         requires { k < length self.old }
         ensures { self.new ≡ slice_set self.old k w }
     {
-        self.items.as_mut_slice()[k as usize] = w;
+        self.items[k as usize] = w;
     }
 }

@@ -1,225 +1,417 @@
-//! What is written into the places of the cells (docs/architecture.md, "Cells").
+//! The places of the cells (docs/architecture.md, "Cells").
 
-ghost use Rattle.std.specs.Prelude.{◌≡◌, ◌<◌, None, Some, IfSome, IfNone, IfOk, OnOk, OnErr};
-ghost use Rattle.std.specs.Prelude.{IsSome, length, slice_set, vec_capacity};
-ghost use Rattle.std.specs.Prelude.{OnErr, IsSome, length, slice_set, vec_capacity, ◌==◌};
-ghost use Rattle.std.specs.Prelude.{if◌then◌else◌, map};
-ghost use Rattle.rg_cells.specs.declared.cell.Cell.{Cell as CellOf};
-ghost use Rattle.rg_cells.specs.Table.{body_in};
-ghost use Rattle.rg_cells.specs.Inner.Places.{shown, Kept, Holds, HoldsAt, Changes, ChangesAt};
-ghost use Rattle.rg_cells.specs.Inner.Places.{held_places, places_after, ServesSerial, ServesNone};
-ghost use Rattle.rg_cells.specs.Inner.Places.{Exchanges};
-ghost use Rattle.slab.specs.Slab.{get, with_value, Updates, slab_len};
+ghost use Rattle.std.specs.Prelude.{◌≡◌, ◌+◌, ◌-◌, ◌^◌, ◌<◌, ◌∷◌, ◌++◌, [], ℕ, Some, false};
+ghost use Rattle.std.specs.Prelude.{IfSome, IfNone, IfOk, OnOk, OnErr, length, option_map};
+ghost use Rattle.std.specs.Prelude.{slice_set};
+ghost use Rattle.rg_cells.specs.declared.cell.Body.{Body as BodyOf};
+ghost use Rattle.rg_cells.specs.Table.{body_at, field_at, label_at, IsHeld, mark_at, link_at};
+ghost use Rattle.rg_cells.specs.Table.{width, with_field, with_label, freed_from, HasSerial};
+ghost use Rattle.rg_cells.specs.Table.{exchanged, IsListed, LacksSerial, Made, Takes};
+ghost use Rattle.rg_cells.specs.Replacing.{ReplacesPlain};
+ghost use Rattle.rg_cells.specs.Table.{held_count, high_of, high_after};
+ghost use Rattle.rg_cells.specs.Inner.Layout.{is_free, index_in, label_in};
+ghost use Rattle.rg_cells.specs.Inner.Places.{link_of, owned, table_of};
+ghost use Rattle.rg_cells.specs.Inner.Places.{FreeList, Owned, OwnedBut, Taken};
+ghost use Rattle.rg_cells.specs.Inner.Places.{ServesSerial, ServesNone};
 
-use crate::cell::{Cell, Place};
+use crate::cell::{Beside, Cell, far, few};
+use crate::fields::Fields;
 use rg_base::{Label, Memory, Word};
-use slab::Slab;
-use std::mem;
+use std::alloc::Global;
+use std::marker::Model;
 
-// The mark of a place that holds a cell.
-fn mark_place(place: &mut Place, m: u64)
-    requires { Holds place.old }
-    ensures { Changes place.old place.new (λ c. record c { mark = m }) }
-{
-    match place {
-        Place::Held(cell) => cell.mark = m,
-        Place::Free => unreachable!(),
+/// How many fields stand in the cell itself. A cell with more has them in a list beside the cells.
+const FEW: usize = 3;
+
+/// Places, each of which holds a cell or is free. A free one names the one that is free next.
+pub struct Places {
+    cells: Vec<Cell>,
+    beside: Vec<Beside>,
+    // the free place that is taken next, and how many are free
+    free: usize,
+    vacant: usize,
+    // the next serial
+    next: u64,
+}
+
+impl Model for Places {
+    ghost use Rattle.rg_cells.specs.Table.{Table};
+    ghost use Rattle.rg_cells.specs.Inner.Places.{table_of, FreeList, Owned};
+
+    ghost Value = { Table };
+
+    ghost view = { λ s. table_of s.cells.items s.beside.items s.next };
+
+    ghost invariant = { λ s. FreeList s.cells.items s.free s.vacant
+        × Owned s.cells.items s.beside.items };
+}
+
+/// Written out, so that no crate above proves how each cell is dropped.
+impl Drop for Places {
+    fn drop(self) {
+        let Places {
+            cells: _,
+            beside: _,
+            free: _,
+            vacant: _,
+            next: _,
+        } = self;
     }
 }
 
-// The link of a place that holds a cell.
-fn link_place(place: &mut Place, next: Option<usize>)
-    requires { Holds place.old }
-    ensures { Changes place.old place.new (λ c. record c { link = next }) }
-{
-    match place {
-        Place::Held(cell) => cell.link = next,
-        Place::Free => unreachable!(),
+impl Places {
+    /// No place yet.
+    pub fn new(alloc: Global) -> Places
+        ensures slots { result.heap.slots ≡ [] }
+        ensures next { result.heap.next ≡ 0 }
+        ensures marks { result.marks ≡ [] }
+        ensures links { result.links ≡ [] }
+    {
+        Places {
+            cells: Vec::new(alloc),
+            beside: Vec::new(alloc),
+            free: 0,
+            vacant: 0,
+            next: 0,
+        }
+    }
+
+    /// The number of places.
+    #[inline]
+    pub fn len(&self) -> usize
+        ensures { result ≡ high_of self.now.heap }
+    {
+        self.cells.len()
+    }
+
+    /// The number of held cells.
+    #[inline]
+    pub fn held(&self) -> usize
+        ensures { result ≡ held_count self.now.heap }
+    {
+        self.cells.len() - self.vacant
+    }
+
+    /// The next serial.
+    #[inline]
+    pub fn next(&self) -> u64
+        ensures { result ≡ self.now.heap.next }
+    {
+        self.next
+    }
+
+    /// The next serial is the one before it.
+    pub fn step_back(&mut self)
+        requires { 0 < self.old.heap.next }
+        ensures { self.new ≡ record self.old {
+          heap = record self.old.heap { next = self.old.heap.next - 1 };
+        } }
+    {
+        self.next -= 1;
+    }
+
+    /// A held cell.
+    #[inline(always)]
+    pub fn cell(&self, slot: usize) -> &Cell
+        requires { IsHeld self.now.heap slot }
+        ensures class { option_map (λ (b : BodyOf). b.class) (body_at self.now.heap slot)
+            ≡ Some result.now.class }
+        ensures label { label_at self.now.heap slot
+            ≡ Some (label_in result.now.state result.now.number) }
+        ensures serial { option_map (λ (b : BodyOf). b.serial) (body_at self.now.heap slot)
+            ≡ Some result.now.serial }
+        ensures mark { mark_at self.now slot ≡ result.now.mark }
+        ensures link { link_at self.now slot ≡ link_of result.now }
+    {
+        &self.cells[slot]
+    }
+
+    /// The number of fields of a held cell.
+    #[inline(always)]
+    pub fn field_count(&self, slot: usize) -> u32
+        requires { IsHeld self.now.heap slot }
+        ensures { result ≡ width (body_at self.now.heap slot) }
+    {
+        let cell = &self.cells[slot];
+        let Some(at) = cell.beside() else {
+            return cell.few();
+        };
+        self.beside[at].fields.len()
+    }
+
+    /// A field of a held cell.
+    #[inline(always)]
+    pub fn field(&self, slot: usize, k: u32) -> Word
+        requires { k < width (body_at self.now.heap slot) }
+        ensures { field_at self.now.heap slot k ≡ Some result }
+    {
+        let cell = &self.cells[slot];
+        let Some(at) = cell.beside() else {
+            return cell.get(k);
+        };
+        self.beside[at].fields.get(k)
+    }
+
+    /// A field of a held cell, if there are so many.
+    #[inline(always)]
+    pub fn element(&self, slot: usize, index: usize) -> Option<Word>
+        requires { IsHeld self.now.heap slot }
+        ensures { result ≡ field_at self.now.heap slot index }
+    {
+        let cell = &self.cells[slot];
+        let Some(at) = cell.beside() else {
+            return cell.element(index);
+        };
+        self.beside[at].fields.element(index)
+    }
+
+    /// Writes a field of a held cell, if it stands beside, there are so many and it led nowhere;
+    /// answers whether it did.
+    #[inline(always)]
+    pub fn replace_plain(&mut self, slot: usize, index: usize, w: Word) -> bool
+        requires { IsHeld self.old.heap slot }
+        ensures { ReplacesPlain result self.old self.new slot index w }
+    {
+        let Some(at) = self.cells[slot].beside() else {
+            return false;
+        };
+        self.beside[at].fields.replace_plain(index, w)
+    }
+
+    /// Writes a field of a held cell.
+    #[inline(always)]
+    pub fn put_field(&mut self, slot: usize, k: u32, w: Word)
+        requires { k < width (body_at self.old.heap slot) }
+        ensures { self.new ≡ record self.old { heap = with_field self.old.heap slot k w } }
+    {
+        let Some(at) = self.cells[slot].beside() else {
+            self.cells[slot].put(k, w);
+            return;
+        };
+        self.beside[at].fields.set(k, w);
+    }
+
+    /// Writes the mark of a held cell.
+    #[inline(always)]
+    pub fn put_mark(&mut self, slot: usize, m: u64)
+        requires { IsHeld self.old.heap slot }
+        ensures set { self.new ≡ record self.old { marks = slice_set self.old.marks slot m } }
+        ensures within { slot < length self.old.marks }
+    {
+        self.cells[slot].mark = m;
+    }
+
+    /// Writes the link of a held cell.
+    #[inline(always)]
+    pub fn put_link(&mut self, slot: usize, next: Option<usize>)
+        requires { IsHeld self.old.heap slot }
+        ensures set { self.new ≡ record self.old { links = slice_set self.old.links slot next } }
+        ensures within { slot < length self.old.links }
+    {
+        self.cells[slot].set_link(next);
+    }
+
+    /// Writes the label of a held cell.
+    #[inline(always)]
+    pub fn put_label(&mut self, slot: usize, label: Label)
+        requires { IsHeld self.old.heap slot }
+        ensures { self.new ≡ record self.old { heap = with_label self.old.heap slot label } }
+    {
+        self.cells[slot].set_label(label);
+    }
+
+    /// The cells at two held slots change places, whole.
+    pub fn exchange(&mut self, a: usize, b: usize)
+        requires first { IsHeld self.old.heap a }
+        requires second { IsHeld self.old.heap b }
+        ensures exchanged { self.new ≡ exchanged self.old a b }
+        ensures within { IsListed self.old a × IsListed self.old b }
+    {
+        let first = self.cells[a];
+        let second = self.cells[b];
+        if a == b {
+            return;
+        }
+        own(&mut self.beside, first, b);
+        own(&mut self.beside, second, a);
+        self.cells[a] = second;
+        self.cells[b] = first;
+    }
+
+    /// Holds a new cell, in a place that was held before where one is free.
+    #[inline]
+    pub fn hold(
+        &mut self,
+        alloc: Global,
+        class: u32,
+        label: Label,
+        fields: &[Word],
+    ) -> Result<usize, Memory>
+        requires { self.old.heap.next < 2 ^ 64 - 1 }
+        ensures takes { IfOk result (λ slot. Takes self.old.heap slot) }
+        ensures made { IfOk result (λ slot. Made self.old self.new slot (record {
+          class = class;
+          label = label;
+          serial = self.old.heap.next;
+          fields = fields.now;
+        })) }
+        ensures next { OnOk result (self.new.heap.next ≡ self.old.heap.next + 1) }
+        ensures high { OnOk result (high_of self.new.heap ≡ high_after self.old.heap) }
+        ensures err { OnErr result (self.new ≡ self.old) }
+    {
+        if fields.len() > FEW {
+            return self.hold_beside(alloc, class, label, fields);
+        }
+        let (kinds, words) = few(fields);
+        let cell = Cell::new(class, label, self.next, kinds, words);
+        let slot = take(&mut self.cells, &mut self.free, &mut self.vacant, cell)?;
+        self.next += 1;
+        Ok(slot)
+    }
+
+    // Holds a new cell whose fields stand beside.
+    #[inline(never)]
+    fn hold_beside(
+        &mut self,
+        alloc: Global,
+        class: u32,
+        label: Label,
+        fields: &[Word],
+    ) -> Result<usize, Memory>
+        requires { self.old.heap.next < 2 ^ 64 - 1 }
+        ensures takes { IfOk result (λ slot. Takes self.old.heap slot) }
+        ensures made { IfOk result (λ slot. Made self.old self.new slot (record {
+          class = class;
+          label = label;
+          serial = self.old.heap.next;
+          fields = fields.now;
+        })) }
+        ensures next { OnOk result (self.new.heap.next ≡ self.old.heap.next + 1) }
+        ensures high { OnOk result (high_of self.new.heap ≡ high_after self.old.heap) }
+        ensures err { OnErr result (self.new ≡ self.old) }
+    {
+        let fields = Fields::of(alloc, fields)?;
+        let Ok(()) = self.beside.reserve(1) else {
+            return Err(Memory);
+        };
+        let (kinds, words) = far(self.beside.len());
+        let cell = Cell::new(class, label, self.next, kinds, words);
+        let slot = take(&mut self.cells, &mut self.free, &mut self.vacant, cell)?;
+        self.beside.push_reserved(Beside {
+            owner: slot,
+            fields,
+        });
+        self.next += 1;
+        Ok(slot)
+    }
+
+    /// Gives a held cell up.
+    #[inline]
+    pub fn give_up(&mut self, slot: usize)
+        requires { IsHeld self.old.heap slot }
+        ensures { self.new ≡ freed_from self.old slot }
+    {
+        let beside = self.cells[slot].beside();
+        self.cells[slot].clear(self.free);
+        self.free = slot;
+        self.vacant += 1;
+        let Some(at) = beside else {
+            return;
+        };
+        drop_list(&mut self.cells, &mut self.beside, at);
+    }
+
+    /// The slot of the held cell with a serial.
+    pub fn find(&self, serial: u64) -> Option<usize>
+        ensures some { IfSome result (λ slot. HasSerial self.now.heap slot serial) }
+        ensures none { IfNone result (LacksSerial self.now.heap serial) }
+    {
+        find(&self.cells, serial)
     }
 }
 
-// The label of a place that holds a cell.
-fn label_place(place: &mut Place, label: Label)
-    requires { Holds place.old }
-    ensures { Changes place.old place.new (λ c. record c {
-      body = record c.body {
-        label = label;
-      };
-    }) }
+// The slot of the held cell with a serial.
+fn find(cells: &[Cell], serial: u64) -> Option<usize>
+    ensures some { IfSome result (λ slot. ServesSerial cells.now slot serial) }
+    ensures none { IfNone result (ServesNone cells.now serial) }
 {
-    match place {
-        Place::Held(cell) => cell.body.label = label,
-        Place::Free => unreachable!(),
-    }
-}
-
-// A field of a place that holds a cell.
-fn field_place(place: &mut Place, k: u32, w: Word)
-    requires { (c : CellOf) × (place.old ≡ Place.Held c) × (k < length c.body.fields) }
-    ensures { Changes place.old place.new (λ c. record c {
-      body = record c.body {
-        fields = slice_set c.body.fields k w;
-      };
-    }) }
-{
-    match place {
-        Place::Held(cell) => cell.body.fields.set(k, w),
-        Place::Free => unreachable!(),
-    }
-}
-
-/// Writes a mark.
-pub fn put_mark(places: &mut Slab<Place>, slot: usize, m: u64)
-    requires { HoldsAt places.old slot }
-    ensures { ChangesAt places.old places.new slot (λ c. record c { mark = m }) }
-{
-    match places.get_mut(slot) {
-        Some(place) => mark_place(place, m),
-        None => unreachable!(),
-    }
-}
-
-/// Writes a link.
-pub fn put_link(places: &mut Slab<Place>, slot: usize, next: Option<usize>)
-    requires { HoldsAt places.old slot }
-    ensures { ChangesAt places.old places.new slot (λ c. record c { link = next }) }
-{
-    match places.get_mut(slot) {
-        Some(place) => link_place(place, next),
-        None => unreachable!(),
-    }
-}
-
-/// Writes a label.
-pub fn put_label(places: &mut Slab<Place>, slot: usize, label: Label)
-    requires { HoldsAt places.old slot }
-    ensures { ChangesAt places.old places.new slot (λ c. record c {
-      body = record c.body {
-        label = label;
-      };
-    }) }
-{
-    match places.get_mut(slot) {
-        Some(place) => label_place(place, label),
-        None => unreachable!(),
-    }
-}
-
-/// Writes a field.
-pub fn put_field(places: &mut Slab<Place>, slot: usize, k: u32, w: Word)
-    requires { (c : CellOf) × (get places.old slot ≡ Some (Place.Held c))
-        × (k < length c.body.fields) }
-    ensures { ChangesAt places.old places.new slot (λ c. record c {
-      body = record c.body {
-        fields = slice_set c.body.fields k w;
-      };
-    }) }
-{
-    match places.get_mut(slot) {
-        Some(place) => field_place(place, k, w),
-        None => unreachable!(),
-    }
-}
-
-// Makes a place free.
-fn make_free(places: &mut Slab<Place>, slot: usize)
-    requires { IsSome (get places.old slot) }
-    ensures { places.new ≡ with_value places.old slot Place.Free }
-{
-    match places.get_mut(slot) {
-        Some(place) => *place = Place::Free,
-        None => unreachable!(),
-    }
-}
-
-// Puts a cell into a free place.
-fn refill(places: &mut Slab<Place>, slot: usize, cell: Cell)
-    requires { get places.old slot ≡ Some Place.Free }
-    ensures { places.new ≡ with_value places.old slot (Place.Held cell) }
-{
-    match places.get_mut(slot) {
-        Some(place) => *place = Place::Held(cell),
-        None => unreachable!(),
-    }
-}
-
-// Takes the cell out of a place, which is free then.
-fn take_cell(places: &mut Slab<Place>, slot: usize) -> Cell
-    requires { HoldsAt places.old slot }
-    ensures was { get places.old slot ≡ Some (Place.Held result) }
-    ensures free { places.new ≡ with_value places.old slot Place.Free }
-{
-    let Some(place) = places.get_mut(slot) else {
-        unreachable!();
-    };
-    match mem::replace(place, Place::Free) {
-        Place::Held(cell) => cell,
-        Place::Free => unreachable!(),
-    }
-}
-
-/// The cells at two slots change places.
-pub fn exchange(places: &mut Slab<Place>, a: usize, b: usize)
-    requires first { HoldsAt places.old a }
-    requires second { HoldsAt places.old b }
-    ensures { Exchanges places.old places.new a b }
-{
-    if a == b {
-        return;
-    }
-    let first = take_cell(places, a);
-    let second = take_cell(places, b);
-    refill(places, a, second);
-    refill(places, b, first);
-}
-
-/// Gives a cell up; its place goes to the list of free ones.
-pub fn give_up(places: &mut Slab<Place>, free: &mut Vec<usize>, slot: usize)
-    requires kept { Kept places.old free.old.items (vec_capacity free.old) }
-    requires held { HoldsAt places.old slot }
-    ensures kept { Kept places.new free.new.items (vec_capacity free.new) }
-    ensures freed { places.new ≡ with_value places.old slot Place.Free }
-{
-    make_free(places, slot);
-    free.push_reserved(slot);
-}
-
-/// Holds a cell in a free place, or in a new one where none is free.
-pub fn hold(places: &mut Slab<Place>, free: &mut Vec<usize>, cell: Cell) -> Result<usize, Memory>
-    requires { Kept places.old free.old.items (vec_capacity free.old) }
-    ensures kept { Kept places.new free.new.items (vec_capacity free.new) }
-    ensures vacant { IfOk result (λ slot. body_in (shown (get places.old slot)) ≡ None) }
-    ensures updates { IfOk result (λ slot.
-        Updates places.old places.new slot (Some (Place.Held cell))) }
-    ensures again { IfOk result (λ slot. held_places places.old < slab_len places.old
-        → IsSome (get places.old slot)) }
-    ensures len { OnOk result (slab_len places.new ≡ places_after places.old) }
-    ensures err { OnErr result (places.new.slots ≡ places.old.slots) }
-{
-    if let Some(slot) = free.pop() {
-        refill(places, slot, cell);
-        return Ok(slot);
-    }
-    let Ok(()) = free.reserve(places.len() + 1) else {
-        return Err(Memory);
-    };
-    let Ok(slot) = places.insert(Place::Held(cell)) else {
-        return Err(Memory);
-    };
-    Ok(slot)
-}
-
-/// The slot of the cell with a serial.
-pub fn find(places: &Slab<Place>, serial: u64) -> Option<usize>
-    ensures some { IfSome result (λ slot. ServesSerial places.now slot serial) }
-    ensures none { IfNone result (ServesNone places.now serial) }
-{
-    for slot in 0..places.capacity() {
-        if let Some(Place::Held(cell)) = places.get(slot) {
-            if cell.body.serial == serial {
+    for slot in 0..cells.len() {
+        let cell = &cells[slot];
+        if cell.is_held() {
+            if cell.serial == serial {
                 return Some(slot);
             }
         }
     }
     None
+}
+
+// Takes a place for a cell: a free one, or a new one where none is free.
+#[inline(always)]
+fn take(
+    cells: &mut Vec<Cell>,
+    free: &mut usize,
+    vacant: &mut usize,
+    cell: Cell,
+) -> Result<usize, Memory>
+    requires list { FreeList cells.old.items free.old vacant.old }
+    requires held { is_free cell.state ≡ false }
+    ensures list { FreeList cells.new.items free.new vacant.new }
+    ensures ok { IfOk result (λ slot. Taken cells.old.items cells.new.items vacant.old slot cell) }
+    ensures err { OnErr result (cells.new.items ≡ cells.old.items) }
+{
+    if *vacant == 0 {
+        return add(cells, cell);
+    }
+    let slot = *free;
+    *free = cells[slot].number as usize;
+    *vacant -= 1;
+    cells[slot] = cell;
+    Ok(slot)
+}
+
+// Adds a place for a cell.
+#[inline(never)]
+fn add(cells: &mut Vec<Cell>, cell: Cell) -> Result<usize, Memory>
+    ensures ok { IfOk result (λ slot. (slot ≡ length cells.old.items)
+        × (cells.new.items ≡ cells.old.items ++ cell ∷ [])) }
+    ensures err { OnErr result (cells.new.items ≡ cells.old.items) }
+{
+    let slot = cells.len();
+    match cells.push(cell) {
+        Ok(()) => Ok(slot),
+        Err(_) => Err(Memory),
+    }
+}
+
+// The list beside the cells that a cell has, if it has one, belongs to a slot.
+fn own(beside: &mut Vec<Beside>, cell: Cell, slot: usize)
+    ensures { beside.new.items ≡ owned beside.old.items
+        (index_in cell.kinds cell.words) slot }
+{
+    let Some(at) = cell.beside() else {
+        return;
+    };
+    if at < beside.len() {
+        beside[at].owner = slot;
+    }
+}
+
+// Takes away a list beside the cells; the last one takes its place.
+#[inline(never)]
+fn drop_list(cells: &mut Vec<Cell>, beside: &mut Vec<Beside>, at: usize)
+    requires owned { OwnedBut cells.old.items beside.old.items at }
+    requires at { at < length beside.old.items }
+    ensures owned { Owned cells.new.items beside.new.items }
+    ensures shown { (n : ℕ) → table_of cells.new.items beside.new.items n
+        ≡ table_of cells.old.items beside.old.items n }
+    ensures free { (f v : ℕ) → FreeList cells.old.items f v → FreeList cells.new.items f v }
+{
+    let Some(last) = beside.pop() else {
+        unreachable!();
+    };
+    if at < beside.len() {
+        cells[last.owner].set_beside(at);
+        beside[at] = last;
+    }
 }
