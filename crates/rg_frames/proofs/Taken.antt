@@ -1,14 +1,14 @@
 -- The slots up to where the top frame ends, of all that there is room for, and the rows that stand for frames.
 use Rattle.std.proofs.Common.{◌≡◌, ◌≤◌, ◌<◌, ◌+◌, ◌-◌, ◌++◌, ◌∷◌, ℕ, zero, suc, [], Some, List, length, take, drop, replicate}
-use Rattle.std.proofs.Common.{slice_get, slice_index_or, slice_set, get_or, refl, sym, ap, subst, ◌∙◌, arith, inl, inr, length-append}
+use Rattle.std.proofs.Common.{slice_get, slice_index_or, slice_set, get_or, unwrap_or, None, refl, sym, ap, subst, ◌∙◌, arith, inl, inr, length-append}
 use Rattle.std.proofs.Math.Seq.{take-append-add, take-append_seam, take-set-lt}
 use Rattle.std.proofs.lemmas.Bool.{cases_lt}
-use Rattle.std.proofs.lemmas.List.{length-drop, length-take-le, length-replicate, length-set, map-append, take-append-drop, take-append-le}
+use Rattle.std.proofs.lemmas.List.{length-drop, length-take-le, length-replicate, length-set, length-map, map-append, take-append-drop, take-append-le}
 use Rattle.std.proofs.lemmas.Option.{slice_get-get_or}
 use Rattle.rg_base.specs.declared.value.Word.{Word}
 use Rattle.rg_base.specs.declared.value.Word.TheVariants.{Nil}
 use Rattle.rg_frames.specs.declared.rows.Row.{Row}
-use Rattle.rg_frames.specs.Inner.Layout.{NilFrom, frames_of, lives_of}
+use Rattle.rg_frames.specs.Inner.Layout.{NilFrom, GoesOn, frames_of, lives_of}
 use Rattle.rg_frames.proofs.Unwriting.{got-behind, got-front, nil-of, nils}
 use Rattle.rg_frames.proofs.Raised.{narrow, nil-past}
 
@@ -246,3 +246,59 @@ pub room-back : (rows more : List Row) (r : Row) (c d : ℕ) → more ≡ rows +
 room-back rows more r c d e f le =
     let n : length more ≡ length rows + 1 = ap length e ∙ length-append rows (r ∷ []) in
     omega (arith, n, f, le)
+
+-- Slots that go on behind the top frame
+
+pub pushed-on : (c d held top n many : ℕ) → 1 ≤ c - held → n ≤ many - (top + 256) → GoesOn c top many → GoesOn d (top + n) many
+pushed-on c d held top n many a b g = λ full. let on = g (omega (arith, a)) in omega (arith, on, b)
+
+pub over-on : (c d held top n more many : ℕ) → 1 ≤ c - held → n + more ≤ many - (top + 256) → GoesOn c top many
+    → GoesOn d (top + n + more) many
+over-on c d held top n more many a b g = λ full. let on = g (omega (arith, a)) in omega (arith, on, b)
+
+pub popped-on : (d top first many : ℕ) → first ≤ top → top + 256 ≤ many → GoesOn d first many
+popped-on d top first many le on = λ full. omega (arith, le, on)
+
+-- a row that is there has its room
+pub held-room : (rows more : List Row) (r : Row) (c : ℕ) → more ≡ rows ++ r ∷ [] → length more ≤ c → 0 < c
+held-room rows more r c e le =
+    let n : length more ≡ length rows + 1 = ap length e ∙ length-append rows (r ∷ []) in
+    omega (arith, n, le)
+
+got-none : (xs : List Word) (k : ℕ) → length xs ≤ k → slice_get xs k ≡ None
+got-none [] k le = refl
+got-none (x ∷ xs) zero le = absurd (omega (arith, le))
+got-none (x ∷ xs) (suc k) le = got-none xs k (omega (arith, le))
+
+-- a slot of the top frame as it is read without a test
+pub near-shown : (slots : List Word) (top place : ℕ) (w : Word) → NilFrom slots top (length slots) → place < length slots
+    → w ≡ get_or slots place w → w ≡ unwrap_or (slice_get (take top slots) place) Nil
+near-shown slots top place w h lt e =
+    let got : slice_get slots place ≡ Some w = slice_get-get_or slots place w lt ∙ ap Some (sym e) in
+    elim (cases_lt place top) [
+      | inl less ↦ rw (got-taken slots top place w less got) refl
+      | inr ge ↦
+          let some : length (take top slots) ≡ top = length-take-le top slots h.order in
+          rw (got-none (take top slots) place (omega (arith, some, ge))) (h.nil place w ge lt got)
+    ]
+
+-- such a slot's place is there
+pub near-there : (rows : List Row) (slots : List Word) (capacity top first s : ℕ) → 0 < length (frames_of rows) → length rows ≤ capacity
+    → first ≤ length (take top slots) → top ≤ length slots → s < 256 → GoesOn capacity top (length slots) → first + s < length slots
+near-there rows slots capacity top first s some held within order near g =
+    let on = g (omega (arith, some, held, length-map rows (λ (r : Row). r.frame))) in
+    omega (arith, on, within, near, length-take-le top slots order)
+
+-- more slots, or the room that was asked for
+pub longer-on : (slots new : List Word) (n capacity top : ℕ) → new ≡ slots ++ replicate n Nil → GoesOn capacity top (length slots)
+    → GoesOn capacity top (length new)
+longer-on slots new n capacity top e g = λ full.
+    let on = g full in
+    let many : length new ≡ length slots + n = ap length e ∙ length-append slots (replicate n Nil) ∙ ap (λ k. length slots + k) (length-replicate n Nil) in
+    omega (arith, on, many)
+
+pub more-slots : (slots new : List Word) (n top : ℕ) → NilFrom slots top (length slots) → new ≡ slots ++ replicate n Nil
+    → (take top new ≡ take top slots) × NilFrom new top (length new)
+more-slots slots new n top h e =
+    let N : List Word → Type 0 = λ xs. NilFrom xs top (length xs) in
+    (ap (take top) e ∙ taken-longer slots n top h, subst N (sym e) (nil-longer slots n top h))

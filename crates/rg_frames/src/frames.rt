@@ -23,6 +23,9 @@ use rg_base::{FRAMES, Memory, Place, Word};
 use std::alloc::Global;
 use std::marker::Model;
 
+// so many slots are kept behind the top frame, so that `near` needs no test of where it ends
+const NEAR: usize = 256;
+
 /// Frames, windows and temporaries, each a stack.
 #[derive(Drop)]
 pub struct Frames {
@@ -44,9 +47,9 @@ pub struct Frames {
 
 impl Model for Frames {
     ghost use Rattle.rg_frames.specs.Stack.{Stack};
-    ghost use Rattle.rg_frames.specs.Inner.Layout.{Lies, NilFrom, Unwritten, stack_of};
+    ghost use Rattle.rg_frames.specs.Inner.Layout.{Lies, GoesOn, NilFrom, Unwritten, stack_of};
     ghost use Rattle.rg_frames.specs.Inner.Layout.{frames_of, lives_of};
-    ghost use Rattle.std.specs.Prelude.{length, take};
+    ghost use Rattle.std.specs.Prelude.{length, take, vec_capacity};
 
     ghost Value = { Stack };
 
@@ -56,7 +59,8 @@ impl Model for Frames {
         (stack_of s.slots s.top s.first s.rows s.windows s.temps s.marks s.next)
         × Unwritten (take s.top s.slots.items) s.first (frames_of s.rows.items) s.live
         (lives_of s.rows.items)
-        × NilFrom s.slots.items s.top (length s.slots.items) };
+        × NilFrom s.slots.items s.top (length s.slots.items)
+        × GoesOn (vec_capacity s.rows) s.top (length s.slots.items) };
 }
 
 impl Frames {
@@ -127,10 +131,13 @@ impl Frames {
         ensures same { self.new ≡ roomed self.old self.new.frame_room self.new.slot_room }
         ensures ok { OnOk result (HasRoom self.new slots) }
     {
+        let Ok(()) = lengthen(&mut self.slots, self.top, slots) else {
+            return Err(Memory);
+        };
         let Ok(()) = self.rows.reserve(1) else {
             return Err(Memory);
         };
-        lengthen(&mut self.slots, self.top, slots)
+        Ok(())
     }
 
     /// Whether there is room for one more frame of so many slots.
@@ -138,7 +145,7 @@ impl Frames {
     pub fn has_room(&self, slots: usize) -> bool
         ensures { result ≡ true ↔ HasRoom self.now slots }
     {
-        self.rows.len() < self.rows.capacity() && slots <= self.slots.len() - self.top
+        self.rows.len() < self.rows.capacity() && slots <= self.slots.len() - self.top - NEAR
     }
 
     /// A frame of these words and so many slots more, all nil, for which there is room.
@@ -246,6 +253,15 @@ impl Frames {
         } else {
             Word::Nil
         }
+    }
+
+    /// The same for one of the first 256 slots, with no test of where the frame ends.
+    #[inline]
+    pub fn near(&self, s: u8) -> Word
+        requires { 0 < length self.now.frames }
+        ensures { result ≡ unwrap_or (slice_get self.now.slots (self.now.first + s)) Nil }
+    {
+        self.slots[self.first + s as usize]
     }
 
     /// Makes nil a slot of the top frame, whatever its number; answers what it held.
@@ -534,17 +550,20 @@ fn reserve_both<A, B>(a: &mut Vec<A>, b: &mut Vec<B>) -> Result<(), Memory>
     Ok(())
 }
 
-// Makes room for so many slots behind a place, all nil.
+// Makes room for so many slots behind a place, and for the near ones behind these, all nil.
 fn lengthen(all: &mut Vec<Word>, top: usize, slots: usize) -> Result<(), Memory>
     requires { top ≤ length all.old.items }
     ensures nil { all.new.items
         ≡ all.old.items ++ replicate (length all.new.items - length all.old.items) Nil }
-    ensures room { OnOk result (top + slots ≤ length all.new.items) }
+    ensures room { OnOk result (top + 256 + slots ≤ length all.new.items) }
 {
-    if slots <= all.len() - top {
+    let Some(wanted) = slots.checked_add(NEAR) else {
+        return Err(Memory);
+    };
+    if wanted <= all.len() - top {
         return Ok(());
     }
-    let Ok(()) = all.reserve(slots) else {
+    let Ok(()) = all.reserve(wanted) else {
         return Err(Memory);
     };
     let more = all.capacity() - all.len();

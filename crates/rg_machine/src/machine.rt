@@ -180,6 +180,16 @@ impl Machine {
         self.frames.word(s)
     }
 
+    /// The same for one of the first 256 slots, with no test of where the frame ends.
+    #[inline]
+    pub fn near(&self, s: u8) -> Word
+        ensures value { val_in self.now result ≡ slot_at (machine_in self.now) s }
+        ensures leads { Leads self.now.heap self.now.frames result }
+    {
+        self.heap.is_forest();
+        self.frames.near(s)
+    }
+
     /// Whether a word leads to an object.
     pub fn check(&self, r: Word) -> Result<(), Trap>
         requires { Leads self.now.heap self.now.frames r }

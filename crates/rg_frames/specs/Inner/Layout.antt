@@ -1,5 +1,5 @@
 -- How the windows lie over slots and temporaries, and what the fields of `Frames` show (docs/architecture.md, "Frames").
-use Rattle.std.specs.Prelude.{◌≡◌, ℕ, suc, ◌≤◌, ◌<◌, ◌-◌, ◌⊎◌, List, Some, None, length, map, take, slice_get, vec_capacity}
+use Rattle.std.specs.Prelude.{◌≡◌, ℕ, suc, ◌≤◌, ◌<◌, ◌+◌, ◌-◌, ◌⊎◌, List, Some, None, length, map, take, slice_get, vec_capacity}
 use Rattle.std.specs.declared.vec.Vec.{Vec}
 use Rattle.rg_base.specs.declared.value.Word.{Word}
 use Rattle.rg_base.specs.declared.value.Word.TheVariants.{Nil}
@@ -23,6 +23,10 @@ pub record Lies (v : Stack) : Type 0 where
 pub record NilFrom (slots : List Word) (from to : ℕ) : Type 0 where
   pub order : from ≤ to
   pub nil : (i : ℕ) (w : Word) → from ≤ i → i < to → slice_get slots i ≡ Some w → w ≡ Nil
+
+-- where there is room for any frame, so many slots go on behind the top one that 256 from its first on are there
+abbrev pub GoesOn : (capacity top many : ℕ) → Type 0
+GoesOn capacity top many = 0 < capacity → top + 256 ≤ many
 
 -- a place isn't one of those from one place up to another
 abbrev pub IsPast : (place from to : ℕ) → Type 0
@@ -50,7 +54,7 @@ frames_of rows = map (λ (r : Row). r.frame) rows
 abbrev pub lives_of : List Row → List ℕ
 lives_of rows = map (λ (r : Row). r.live) rows
 
--- what the fields show: the slots end where the top frame does
+-- what the fields show: the slots end where the top frame does, and those that `near` reads behind it are no room
 abbrev pub stack_of : {Z : Type 0} → (slots : Vec Word Z) → (top first : ℕ) → Vec Row Z → Vec Window Z → (temps marks : Vec ℕ Z) → ℕ → Stack
 stack_of slots top first rows windows temps marks next = record {
   slots = take top slots.items;
@@ -61,5 +65,5 @@ stack_of slots top first rows windows temps marks next = record {
   marks = marks.items;
   next = next;
   frame_room = vec_capacity rows - length rows.items;
-  slot_room = length slots.items - top;
+  slot_room = length slots.items - (top + 256);
 }

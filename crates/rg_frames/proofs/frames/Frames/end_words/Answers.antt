@@ -25,6 +25,7 @@ invariant_of-self c =
       rw b.view (lies-slots _ _ _ _ _ _ (ended-long _ _ within) c.self.invariant.0),
       rw b.view (unwritten-end _ _ _ _ _ _ (omega arith) within c.self.invariant.1),
       b.nil,
+      rw b.many c.self.invariant.3,
     )
 
 pub returns-then-from-self : goal.returns-then-from-self

@@ -11,7 +11,8 @@ invariant_of-self c =
     let begun = subst Begun (sym c.self.view_is) c.requires in
     let some : 0 < length c.self.inside.marks.items = omega (arith, begun.1, c.self.invariant.0.as_many) in
     let below = mark-below v _ _ _ (grind arith) (grind arith) c.index.ensures c.if-len-index.false some c.self.invariant.0 in
-    (lies-temps v _ some (mark-left v _ _ c.pop.ensures.items below) c.self.invariant.0, c.self.invariant.1, c.self.invariant.2)
+    (lies-temps v _ some (mark-left v _ _ c.pop.ensures.items below) c.self.invariant.0, c.self.invariant.1, c.self.invariant.2,
+    c.self.invariant.3)
 
 pub returns-clause-none : goal.returns-clause-none
 returns-clause-none c =

@@ -1,7 +1,7 @@
 use Rattle.std.proofs.Common.{◌≡◌, [], length, take, subst, sym, arith}
 use Rattle.std.proofs.lemmas.List.{length-take-le}
 use Rattle.rg_frames.specs.Stack.{Stack, HasRoom}
-use Rattle.rg_frames.proofs.Taken.{unwritten, frames-more, lives-more, room-less}
+use Rattle.rg_frames.proofs.Taken.{unwritten, frames-more, lives-more, room-less, pushed-on}
 use Rattle.rg_frames.proofs.Unwriting.{is-pushed, lies-longer, unwritten-pushed}
 use Rattle.rg_frames.proofs.frames.Frames.push_frame.Goals as goal
 
@@ -17,6 +17,7 @@ invariant_of-self c =
       unwritten-pushed _ [] _ c.args.slots _ _ _ _ _ _ _ _ _ u.0 (frames-more _ _ _ c.push_reserved.ensures.items)
           (lives-more _ _ _ c.push_reserved.ensures.items) (sym long) (omega (arith, long)) c.self.invariant.1,
       u.1,
+      pushed-on _ _ _ _ _ _ room.0 room.1 c.self.invariant.3,
     )
 
 pub returns : goal.returns

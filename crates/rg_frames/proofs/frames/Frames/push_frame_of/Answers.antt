@@ -2,7 +2,7 @@ use Rattle.std.proofs.Common.{◌≡◌, ◌+◌, ◌++◌, length, replicate, t
 use Rattle.std.proofs.lemmas.List.{length-take-le, length-replicate}
 use Rattle.rg_base.specs.declared.value.Word.TheVariants.{Nil}
 use Rattle.rg_frames.specs.Stack.{Stack, HasRoom}
-use Rattle.rg_frames.proofs.Taken.{Over, written, frames-more, lives-more, room-less}
+use Rattle.rg_frames.proofs.Taken.{Over, written, frames-more, lives-more, room-less, over-on}
 use Rattle.rg_frames.proofs.Unwriting.{is-pushed-of, lies-longer, unwritten-pushed}
 use Rattle.rg_frames.proofs.frames.Frames.push_frame_of.Goals as goal
 use Rattle.rg_frames.proofs.frames.Frames.push_frame_of.Goals.{After-copy}
@@ -18,12 +18,15 @@ behind c =
 pub invariant_of-self : goal.invariant_of-self
 invariant_of-self c =
     let s = c.self.inside in
+    let P : Stack → Type 0 = λ v. HasRoom v (length c.args.words.now + c.args.more) in
+    let room = subst P (sym c.self.view_is) c.requires in
     let long : length (take s.top s.slots.items) ≡ s.top = length-take-le s.top s.slots.items c.self.invariant.2.order in
     let o = behind (goal.at.invariant_of-self c).After-copy in (
       lies-longer _ _ _ _ _ _ _ o.view c.self.invariant.0,
       unwritten-pushed _ c.args.words.now _ _ _ _ _ _ _ _ _ _ _ o.view (frames-more _ _ _ c.push_reserved.ensures.items)
           (lives-more _ _ _ c.push_reserved.ensures.items) (sym long) (omega (arith, long)) c.self.invariant.1,
       o.nil,
+      rw o.many (over-on _ _ _ _ _ _ _ room.0 room.1 c.self.invariant.3),
     )
 
 pub returns : goal.returns

@@ -15,6 +15,7 @@ invariant_of-self c =
       rw s.view (unwritten-set _ _ _ _ _ _ _ _ low (omega (arith, c.if-self-place.true)) (omega arith)
           (omega (arith, c.if-place-self.true, long)) c.self.invariant.1),
       s.nil,
+      rw s.many c.self.invariant.3,
     )
 
 pub invariant_of-self-else-self-place : goal.invariant_of-self-else-self-place
@@ -26,6 +27,7 @@ invariant_of-self-else-self-place c =
       rw s.view (unwritten-set _ _ _ _ _ _ _ _ low (omega arith) (omega (arith, c.if-self-place.false)) c.self.invariant.1.top.order
           c.self.invariant.1),
       s.nil,
+      rw s.many c.self.invariant.3,
     )
 
 pub returns-then-self-place : goal.returns-then-self-place

@@ -59,6 +59,7 @@ invariant_of-self c =
       rw (w.view, c.raise.ensures.frames, c.raise.ensures.len, c.raise.ensures.capacity) (lies-set _ _ _ _ _ _ _ c.self.invariant.0),
       rw w.view (c.raise.ensures.nil slots live c.args.w (subst P (sym n) c.above-self-inside.ensures.past) before),
       w.nil,
+      rw (w.many, c.raise.ensures.capacity) c.self.invariant.3,
     )
 
 pub invariant_of-self-else-eq : goal.invariant_of-self-else-eq
@@ -70,6 +71,7 @@ invariant_of-self-else-eq c =
       rw w.view (lies-set _ _ _ _ _ _ _ c.self.invariant.0),
       rw w.view (unwritten-over _ _ _ _ _ _ was _ (shown-at _ _ _ _ c.self.invariant.2 (within d) c.index-2.ensures) differs c.self.invariant.1),
       w.nil,
+      rw w.many c.self.invariant.3,
     )
 
 pub returns-then-eq : goal.returns-then-eq

@@ -13,4 +13,4 @@ invariant_of-self c =
     let R : List Word → Type 0 = λ xs. Unwritten xs s.first (frames_of s.rows.items) (s.first + c.args.s) (lives_of s.rows.items) in
     let nil = ap (λ (v : Stack). v.slots) (subst P (sym c.self.view_is) c.requires.nil) in
     let within = subst Q (sym c.self.view_is) c.requires.within in
-    (c.self.invariant.0, subst R nil (unwritten-end _ _ _ _ _ _ (omega arith) within c.self.invariant.1), c.self.invariant.2)
+    (c.self.invariant.0, subst R nil (unwritten-end _ _ _ _ _ _ (omega arith) within c.self.invariant.1), c.self.invariant.2, c.self.invariant.3)

@@ -23,6 +23,7 @@ invariant_of-self c =
       rw s.view (lies-set _ _ _ _ _ _ _ c.self.invariant.0),
       rw s.view (unwritten-nil _ _ _ _ _ _ (omega arith) c.self.invariant.1),
       s.nil,
+      rw s.many c.self.invariant.3,
     )
 
 pub returns-clause-word : goal.returns-clause-word
