@@ -11,10 +11,11 @@ use Rattle.rg_base.specs.declared.value.Word.{Word}
 use Rattle.rg_base.specs.declared.value.Word.TheVariants.{Nil, Int, Bool as Truth, Slot}
 use Rattle.rg_cells.specs.declared.cell.Body.{Body}
 use Rattle.rg_cells.specs.Table.{Heap, Table, body_at, field_at, label_at, mark_at, width, field_total, with_field}
+use Rattle.rg_cells.specs.Replacing.{ReplacesPlain}
 use Rattle.rg_regions.specs.Table.{Record, RegionTable, record_at, HasNumber}
 use Rattle.rg_regions.specs.Reach.{LiesIn, belongs}
 use Rattle.rg_regions.specs.Grove.{Grove, referrers, leads_to}
-use Rattle.rg_regions.proofs.Callers.Told.{one_region, number_of}
+use Rattle.rg_regions.proofs.Callers.Told.{field_within, one_region, number_of}
 use Rattle.rg_regions.proofs.Callers.Fewer.{belongs_not, lies_belongs}
 use Rattle.rg_count.proofs.Written.{count-fits, referrers-written}
 use Rattle.rg_frames.specs.declared.rows.Window.{Window}
@@ -238,3 +239,11 @@ grove_swapped c cells t v slot k w g e l place =
           | inl m ↦ let z : Some Frozen ≡ Some (Region m.1) = sym y ∙ m.4 in cc
           | inr m ↦ let z : Some Frozen ≡ Some (Temp m.0) = sym y ∙ m.1 in cc
         ]
+
+-- a word that led nowhere is replaced by one that leads nowhere, or nothing is
+pub grove_replaced : (r : Bool) (c cells : Table) (t : RegionTable) (key slot k : ℕ) (w : Word) → Grove c t → ReplacesPlain r c cells slot k w
+    → LeadsNowhere w → (k < width (body_at c.heap slot) → MayWrite c.heap t key slot w) → Grove cells t
+grove_replaced true c cells t key slot k w g p plain may =
+    let l = field_within c.heap slot k p.0 p.1 in
+    grove_recounted c c cells t key slot k w g (recounts_nowhere c t slot k p.0 w p.1 p.2 plain) p.3 l (may l)
+grove_replaced false c cells t key slot k w g p plain may = let P : Table → Type 0 = λ z. Grove z t in subst P (sym p) g

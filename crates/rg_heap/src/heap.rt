@@ -33,7 +33,7 @@ use crate::ending::{end_temps, release_one};
 use crate::making::{make_bridge, make_in};
 use crate::reading::{region_of, vals};
 use crate::sliding::slide_by;
-use crate::writing::write_field;
+use crate::writing::{write_element, write_field};
 use rg_base::{EndNumbers, Label, Manager, Memory, Place, Seen, Steps, Trap, Word};
 use rg_cells::Cells;
 use rg_frames::Frames;
@@ -184,6 +184,35 @@ impl Heap {
     {
         let key = frames.top().region;
         write_field(&mut self.cells, &self.regions, key, slot, k, w);
+    }
+
+    /// An element of an array by its index, if it is there.
+    #[inline(always)]
+    pub fn element(&self, slot: usize, index: usize) -> Option<Word>
+        requires { IsHeld self.now.cells.heap slot }
+        ensures { result ≡ field_at self.now.cells.heap slot index }
+    {
+        self.cells.element(slot, index)
+    }
+
+    /// Writes an element of an array of the active region, or of a temporary, if it is there;
+    /// answers whether it is.
+    #[inline(always)]
+    pub fn write_element(&mut self, frames: &Frames, slot: usize, index: usize, w: Word) -> bool
+        requires window { 0 < length frames.now.windows }
+        requires key { OnTop frames.now (λ top. IsKey self.old.regions top.region) }
+        requires held { IsHeld self.old.cells.heap slot }
+        requires place { index < width (body_at self.old.cells.heap slot) →
+            InActive self.old.cells.heap self.old.regions frames.now slot
+            (λ number. Stays self.old.cells.heap number w) ⊎ IsTemp self.old.cells.heap slot }
+        ensures put { result ≡ true → (index < width (body_at self.old.cells.heap slot))
+            × (self.new.cells.heap ≡ with_field self.old.cells.heap slot index w) }
+        ensures lacks { result ≡ false → (width (body_at self.old.cells.heap slot) ≤ index)
+            × (self.new ≡ self.old) }
+        ensures regions { self.new.regions ≡ self.old.regions }
+    {
+        let key = frames.top().region;
+        write_element(&mut self.cells, &self.regions, key, slot, index, w)
     }
 
     /// Writes a field of a cell of the active region, or of a temporary, and answers what stood

@@ -1,6 +1,6 @@
 //! Fields that are written (docs/architecture.md, "The heap").
 
-ghost use Rattle.std.specs.Prelude.{◌≡◌, ◌<◌, ◌+◌, ◌-◌, ◌^◌, ℕ, None, IfSome, true};
+ghost use Rattle.std.specs.Prelude.{◌≡◌, ◌<◌, ◌≤◌, ◌+◌, ◌-◌, ◌^◌, ℕ, None, IfSome, true, false};
 ghost use Rattle.rg_cells.specs.Table.{IsHeld, body_at, mark_at, width, with_field};
 ghost use Rattle.rg_regions.specs.Table.{IsKey};
 ghost use Rattle.rg_regions.specs.Reach.{LiesIn};
@@ -137,4 +137,63 @@ pub fn write_field(cells: &mut Cells, regions: &Regions, key: usize, slot: usize
         }
     }
     write_leading(cells, regions, key, slot, k, w);
+}
+
+// Writes an element where it or what stands there may lead to an object, or it isn't there.
+#[inline(never)]
+fn write_within(
+    cells: &mut Cells,
+    regions: &Regions,
+    key: usize,
+    slot: usize,
+    index: usize,
+    w: Word,
+) -> bool
+    requires grove { Grove cells.old regions.now }
+    requires key { IsKey regions.now key }
+    requires held { IsHeld cells.old.heap slot }
+    requires place { index < width (body_at cells.old.heap slot)
+        → MayWrite cells.old.heap regions.now key slot w }
+    ensures put { result ≡ true → (index < width (body_at cells.old.heap slot))
+        × (cells.new.heap ≡ with_field cells.old.heap slot index w) }
+    ensures lacks { result ≡ false → (width (body_at cells.old.heap slot) ≤ index)
+        × (cells.new ≡ cells.old) }
+    ensures grove { Grove cells.new regions.now }
+{
+    if index >= cells.field_count(slot) as usize {
+        return false;
+    }
+    write_leading(cells, regions, key, slot, index as u32, w);
+    true
+}
+
+/// Writes an element of an array in the region of a key, or of a temporary, if it is there; answers
+/// whether it is.
+#[inline(always)]
+pub fn write_element(
+    cells: &mut Cells,
+    regions: &Regions,
+    key: usize,
+    slot: usize,
+    index: usize,
+    w: Word,
+) -> bool
+    requires grove { Grove cells.old regions.now }
+    requires key { IsKey regions.now key }
+    requires held { IsHeld cells.old.heap slot }
+    requires place { index < width (body_at cells.old.heap slot)
+        → MayWrite cells.old.heap regions.now key slot w }
+    ensures put { result ≡ true → (index < width (body_at cells.old.heap slot))
+        × (cells.new.heap ≡ with_field cells.old.heap slot index w) }
+    ensures lacks { result ≡ false → (width (body_at cells.old.heap slot) ≤ index)
+        × (cells.new ≡ cells.old) }
+    ensures grove { Grove cells.new regions.now }
+{
+    if !leads_nowhere(w) {
+        return write_within(cells, regions, key, slot, index, w);
+    }
+    if cells.replace_plain(slot, index, w) {
+        return true;
+    }
+    write_within(cells, regions, key, slot, index, w)
 }

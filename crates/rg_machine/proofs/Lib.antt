@@ -1,6 +1,7 @@
 -- The lemmas that the answers of rg_machine use, by what they speak of; Callers is open to crates above.
 mod Number
 mod Indexed
+mod Placed
 pub mod Callers
 mod Call
 mod Write

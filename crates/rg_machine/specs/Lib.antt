@@ -12,4 +12,5 @@ pub mod High
 pub mod Cores
 pub mod Makes
 pub mod Acts
+pub mod Among
 pub mod Inner

@@ -1,19 +1,21 @@
 //! Arrays and their elements (docs/architecture.md, "The machine").
 
-ghost use Rattle.std.specs.Prelude.{◌≡◌, ◌∷◌, [], IfErr, IfOk, Ok, Err, length, replicate};
+ghost use Rattle.std.specs.Prelude.{◌≡◌, ◌∷◌, [], IfErr, IfOk, IfSome, IfNone, Ok, Err, length};
+ghost use Rattle.std.specs.Prelude.{replicate, true, false};
 ghost use Rattle.rg_base.specs.declared.object.Seen.{Seen as Object};
 ghost use Rattle.rg_rules.specs.Evaluation.{object_at};
 ghost use Rattle.rg_code.specs.declared.op.Op.TheVariants as i;
 ghost use Rattle.rg_stack.specs.Effects.{element_in, put_element};
 ghost use Rattle.rg_machine.specs.Core.{Has, with_machine};
 ghost use Rattle.rg_machine.specs.Cores.{core_of};
+ghost use Rattle.rg_machine.specs.Among.{ElementIs, IsAmong};
 ghost use Rattle.rg_machine.specs.High.{NoneMade};
 ghost use Rattle.rg_machine.specs.Inner.Arrays.{place_behind};
 ghost use Rattle.rg_machine.specs.Parts.{machine_in, val_in};
 ghost use Rattle.rg_machine.specs.Stands.{Leads};
 
 use super::Machine;
-use crate::scalars::{number, place_among};
+use crate::scalars::{number, place_among, place_of};
 use rg_base::{Memory, Trap, Word};
 use std::mem;
 
@@ -74,6 +76,66 @@ impl Machine {
         }
     }
 
+    /// The word in the element that another names, of the array to which a third leads, if it is
+    /// there.
+    #[inline(always)]
+    pub fn element_of(&self, r: Word, index: Word) -> Option<Word>
+        requires leads { Leads self.now.heap self.now.frames r }
+        requires given {
+            IsAmong (machine_in self.now) (val_in self.now r) (val_in self.now index) →
+            Has i.Element (record (core_of self.now) {
+              stack = val_in self.now index ∷ val_in self.now r ∷ [];
+            }) }
+        ensures some { IfSome result (ElementIs self.now (val_in self.now r)
+            (val_in self.now index)) }
+        ensures none { IfNone result
+            (IsAmong (machine_in self.now) (val_in self.now r) (val_in self.now index) → ⊥) }
+    {
+        self.heap.is_forest();
+        let Word::Slot(slot) = r else {
+            return None;
+        };
+        // no array has a place that only a negative number names
+        let _ = self.heap.size(slot);
+        let place = place_of(number(self, index));
+        self.heap.element(slot, place)
+    }
+
+    /// Writes a word into the element that another names, of the array to which a third leads, if it
+    /// is there; answers whether it is.
+    #[inline(always)]
+    pub fn put_into(&mut self, r: Word, index: Word, w: Word) -> bool
+        requires object { Leads self.old.heap self.old.frames r }
+        requires leads { Leads self.old.heap self.old.frames w }
+        requires given {
+            IsAmong (machine_in self.old) (val_in self.old r) (val_in self.old index) →
+            Has i.PutElement (record (core_of self.old) {
+              stack = val_in self.old w ∷ val_in self.old index ∷ val_in self.old r ∷ [];
+            }) }
+        ensures put { result ≡ true →
+            IsAmong (machine_in self.old) (val_in self.old r) (val_in self.old index)
+            × (core_of self.new ≡ with_machine (core_of self.old) (record (machine_in self.old) {
+              store = put_element (machine_in self.old).store (val_in self.old r)
+                  (val_in self.old index) (val_in self.old w);
+            })) }
+        ensures lacks { result ≡ false →
+            (IsAmong (machine_in self.old) (val_in self.old r) (val_in self.old index) → ⊥)
+            × (self.new ≡ self.old) }
+        ensures high { NoneMade self.old.heap self.new.heap }
+    {
+        self.heap.is_forest();
+        let Word::Slot(slot) = r else {
+            return false;
+        };
+        // no array has a place that only a negative number names
+        let _ = self.heap.size(slot);
+        let place = place_of(number(self, index));
+        if !self.heap.write_element(&self.frames, slot, place, w) {
+            return false;
+        }
+        true
+    }
+
     /// The word in the element that another names, of the array to which a third leads; nil where
     /// it isn't there.
     #[inline]
@@ -86,13 +148,9 @@ impl Machine {
             (val_in self.now r) (val_in self.now index) }
         ensures leads { Leads self.now.heap self.now.frames result }
     {
-        let place = match self.element_place(r, index) {
-            Ok(place) => place,
-            Err(_) => return Word::Nil,
-        };
-        match self.field(r, place) {
-            Ok(w) => w,
-            Err(_) => Word::Nil,
+        match self.element_of(r, index) {
+            Some(w) => w,
+            None => Word::Nil,
         }
     }
 
@@ -111,9 +169,6 @@ impl Machine {
             }) }
         ensures high { NoneMade self.old.heap self.new.heap }
     {
-        match self.element_place(r, index) {
-            Ok(place) => self.put(r, place, w),
-            Err(_) => unreachable!(),
-        }
+        let _put = self.put_into(r, index, w);
     }
 }
