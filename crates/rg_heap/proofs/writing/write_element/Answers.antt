@@ -1,4 +1,4 @@
-use Rattle.std.proofs.Common.{◌≡◌, ◌<◌, ◌≤◌, Bool, true, false, ap, refl, subst, sym}
+use Rattle.std.proofs.Common.{◌≡◌, ◌<◌, ◌≤◌, true, false, ap, refl, subst, sym}
 use Rattle.rg_cells.specs.Table.{Table, IsHeld, body_at, width, with_field}
 use Rattle.rg_regions.specs.Grove.{Grove}
 use Rattle.rg_regions.proofs.Callers.Told.{field_within}
