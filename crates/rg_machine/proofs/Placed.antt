@@ -19,7 +19,7 @@ use Rattle.rg_heap.specs.Answers.{Reads}
 use Rattle.rg_code.specs.declared.op.Op.TheVariants as i
 use Rattle.rg_stack.specs.Effects.{element_in}
 use Rattle.rg_machine.specs.Among.{ElementIs, IsAmong, NamesPlace}
-use Rattle.rg_machine.specs.Core.{Core, Has}
+use Rattle.rg_machine.specs.Core.{Has}
 use Rattle.rg_machine.specs.Cores.{core_of}
 use Rattle.rg_machine.specs.Inner.Arrays.{place_behind}
 use Rattle.rg_machine.specs.Parts.{Parts, machine_in, val_in}

@@ -1,4 +1,3 @@
-use Rattle.std.proofs.Common.{◌≡◌}
 use Rattle.rg_machine.proofs.Placed.{put-there-is}
 use Rattle.rg_machine.proofs.machine.Machine.put_element.Goals as goal
 
