@@ -1,6 +1,7 @@
 -- Elements by their places: what is read at one, and what a write needs.
-use Rattle.std.proofs.Common.{◌≡◌, ◌<◌, ◌≤◌, ◌^◌, ◌∷◌, [], ℕ, ℤ, pos, negsuc, List, Option, Some, None, IfSome, IfNone, Result, Ok, Err, ok_or, length, nat_lt}
-use Rattle.std.proofs.Common.{Bool as Truth, true, false, if◌then◌else◌, slice_get, zero, suc, refl, sym, ap, subst, ◌∙◌, arith, of_z, w64, SFits}
+use Rattle.std.proofs.Common.{◌≡◌, ◌<◌, ◌≤◌, ◌^◌, ◌∷◌, [], ℕ, ℤ, pos, negsuc, List, Option, Some, None, IfSome, IfNone, Result}
+use Rattle.std.proofs.Common.{Ok, Err, ok_or, length, nat_lt, Bool as Truth, true, false, if◌then◌else◌, slice_get, zero, suc, refl, sym, ap, subst}
+use Rattle.std.proofs.Common.{◌∙◌, arith, of_z, w64, SFits}
 use Rattle.std.specs.Prelude.{option_and_then}
 use Rattle.std.proofs.lemmas.Option.{none-some}
 use Rattle.rg_base.specs.declared.object.Seen.{Seen}
@@ -146,7 +147,8 @@ element-absent p r x n = by (object_at (machine_in p).store r) refl
     by (Ok o) at = by_place o at (element_place o x) refl
 
 -- what is put where the instruction has what it needs is put
-pub put-there-is : (b : Truth) (p : Parts) (r x w : Word) → Has i.PutElement (record (core_of p) { stack = val_in p w ∷ val_in p x ∷ val_in p r ∷ [] })
+pub put-there-is : (b : Truth) (p : Parts) (r x w : Word)
+    → Has i.PutElement (record (core_of p) { stack = val_in p w ∷ val_in p x ∷ val_in p r ∷ [] })
     → (b ≡ false → (IsAmong (machine_in p) (val_in p r) (val_in p x) → ⊥)) → b ≡ true
 put-there-is true p r x w given lacks = refl
 put-there-is false p r x w given lacks = absurd (by (place_behind (machine_in p).store (val_in p r) (val_in p x)) refl)

@@ -95,13 +95,13 @@ impl Machine {
             return None;
         };
         self.heap.is_forest();
-        // no array has a place that only a negative number names
+        // there are fewer than 2^32 elements, so a negative number names none
         self.heap.has_few_fields(slot);
         self.heap.element(slot, place)
     }
 
-    /// Writes a word into the element that another names, of the array to which a third leads, if it
-    /// is there; answers whether it is.
+    /// Writes a word into the element that another names, of the array to which a third leads, if
+    /// it is there; answers whether it is.
     #[inline(always)]
     pub fn put_into(&mut self, r: Word, index: Word, w: Word) -> bool
         requires object { Leads self.old.heap self.old.frames r }
@@ -126,7 +126,7 @@ impl Machine {
             return false;
         };
         self.heap.is_forest();
-        // no array has a place that only a negative number names
+        // there are fewer than 2^32 elements, so a negative number names none
         self.heap.has_few_fields(slot);
         if !self.heap.write_element(&self.frames, slot, place, w) {
             return false;

@@ -54,10 +54,14 @@ has_few_fields-requires c =
     (subst L (sym c.self.view_is) c.requires.object).held c.in-Slot.slot c.in-Slot.is
 
 pub write_element-requires-clause-held : goal.write_element-requires-clause-held
-write_element-requires-clause-held c = (may-put (goal.at.write_element-requires-clause-held c).After-has_few_fields).located.leads.held c.in-Slot.slot c.in-Slot.is
+write_element-requires-clause-held c =
+    let m = may-put (goal.at.write_element-requires-clause-held c).After-has_few_fields in
+    m.located.leads.held c.in-Slot.slot c.in-Slot.is
 
 pub write_element-requires-clause-place : goal.write_element-requires-clause-place
-write_element-requires-clause-place c = λ t. element-may _ _ _ _ _ _ (may-put (goal.at.write_element-requires-clause-place c).After-has_few_fields) t
+write_element-requires-clause-place c =
+    let m = may-put (goal.at.write_element-requires-clause-place c).After-has_few_fields in λ t.
+    element-may _ _ _ _ _ _ m t
 
 -- Where it isn't there, nothing changed
 
@@ -69,10 +73,11 @@ invariant_of-self c =
     (subst S same c.self.invariant.0, subst A same c.self.invariant.1)
 
 pub returns-then-not-write_element-clause-lacks : goal.returns-then-not-write_element-clause-lacks
-returns-then-not-write_element-clause-lacks c = λ e.
+returns-then-not-write_element-clause-lacks c =
+    let m = may-put (goal.at.returns-then-not-write_element-clause-lacks c).After-has_few_fields in λ e.
     let done = c.if-not-write_element.ensures.lacks refl in
     let P : Parts → Type 0 = λ p. IsAmong (machine_in p) (val_in p c.args.r) (val_in p c.args.index) → ⊥ in (
-      subst P c.self.view_is (lacks-at _ _ _ _ _ (may-put (goal.at.returns-then-not-write_element-clause-lacks c).After-has_few_fields).located done.0),
+      subst P c.self.view_is (lacks-at _ _ _ _ _ m.located done.0),
       ap (λ h. record (the_view c.self.inside) { heap = h }) done.1 ∙ c.self.view_is,
     )
 
@@ -84,19 +89,21 @@ returns-then-not-write_element-clause-high c =
 
 pub invariant_of-self-2 : goal.invariant_of-self-2
 invariant_of-self-2 c =
+    let m = may-put (goal.at.invariant_of-self-2 c).After-has_few_fields in
     let done = c.if-not-write_element.ensures.put refl in
-    element-stands _ _ _ _ _ _ (may-put (goal.at.invariant_of-self-2 c).After-has_few_fields) done.0 c.write_element.new.self done.1 c.write_element.ensures.regions
+    element-stands _ _ _ _ _ _ m done.0 c.write_element.new.self done.1 c.write_element.ensures.regions
 
 pub returns-clause-put : goal.returns-clause-put
-returns-clause-put c = λ e.
+returns-clause-put c =
+    let m = may-put (goal.at.returns-clause-put c).After-has_few_fields in λ e.
     let done = c.if-not-write_element.ensures.put refl in
     let new = c.write_element.new.self in
     let A : Parts → Type 0 = λ p. IsAmong (machine_in p) (val_in p c.args.r) (val_in p c.args.index) in
     let P : Parts → Type 0 = λ p. core_of (record (the_view c.self.inside) { heap = new }) ≡ with_machine (core_of p) (record (machine_in p) {
       store = put_element (machine_in p).store (val_in p c.args.r) (val_in p c.args.index) (val_in p c.args.w);
     }) in (
-      subst A c.self.view_is (among-at _ _ _ _ _ (may-put (goal.at.returns-clause-put c).After-has_few_fields).located done.0),
-      subst P c.self.view_is (element-core _ _ _ _ _ _ (may-put (goal.at.returns-clause-put c).After-has_few_fields) done.0 new done.1 c.write_element.ensures.regions),
+      subst A c.self.view_is (among-at _ _ _ _ _ m.located done.0),
+      subst P c.self.view_is (element-core _ _ _ _ _ _ m done.0 new done.1 c.write_element.ensures.regions),
     )
 
 pub returns-clause-high : goal.returns-clause-high
