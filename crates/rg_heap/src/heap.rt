@@ -408,12 +408,13 @@ impl Heap {
         self.cells.field_count(slot)
     }
 
-    /// That a held cell has fewer than 2^32 fields. Nothing is done at run time.
-    #[inline(always)]
+    /// That a held cell has fewer than 2^32 fields. It is called for this clause alone.
     pub fn has_few_fields(&self, slot: usize)
         requires { IsHeld self.now.cells.heap slot }
         ensures { width (body_at self.now.cells.heap slot) < 2 ^ 32 }
     {
+        // compiled by itself it becomes empty; with `inline(always)` its reads would be kept where
+        // the caller reads the same
         let _ = self.cells.field_count(slot);
     }
 
