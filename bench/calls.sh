@@ -21,6 +21,7 @@ FIELDS = {"CountedRun": ("ended", "Ended")}
 # These say yes, or tell something, only to be quick: their other answer may come at any time, and callers go the long way.
 FREE = {
     "rg_code::CodeList::known": "None", "rg_code::CodeList::shapes": "None", "rg_heap::Heap::is_at_home": "false", "rg_machine::Machine::behind": "None",
+    "rg_compute::compute": "None", "rg_compute::leading": "None", "rg_compute::holds": "None", "rg_compute::operated": "None",
     "rg_known::test_int": "None", "rg_known::test_slot": "None", "rg_known::operate_int": "None",
     "rg_known::operate_slot": "None", "rg_known::quick": "None",
     "rg_pace::Pacer::ask": "false",
@@ -50,7 +51,7 @@ NO_MEMORY = {
     "rg_move": "freeze",
     "rg_heap": "Heap::new Heap::read Heap::write Heap::swap Heap::leave Heap::freeze Heap::drop_iso Heap::collect"
                " Heap::collect_sliding Heap::numbers Heap::active Heap::serial Heap::owns",
-    "rg_known": "*",
+    "rg_compute": "*", "rg_known": "*",
     "rg_step": "Stepper::new Stepper::heap Stepper::frames Stepper::events Stepper::numbers",
     "rg_input": "*",
     "rg_run": "Machine::new Machine::is_fresh Machine::events Machine::numbers",

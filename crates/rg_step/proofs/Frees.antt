@@ -25,7 +25,7 @@ use Rattle.rg_view.proofs.Callers.Open.{window-open}
 use Rattle.rg_view.proofs.Callers.Shown.{held-body}
 use Rattle.rg_machine.specs.Core.{Core, started, work_of}
 use Rattle.rg_machine.specs.Parts.{Parts, machine_in}
-use Rattle.rg_known.specs.Known.{GoesOn, with_left}
+use Rattle.rg_compute.specs.Known.{GoesOn, with_left}
 use Rattle.rg_step.specs.declared.step.Did.{Did}
 use Rattle.rg_step.specs.declared.step.Did.TheVariants as did
 use Rattle.rg_step.specs.declared.stopped.Stopped.{Stopped}

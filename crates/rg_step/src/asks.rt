@@ -6,7 +6,7 @@ ghost use Rattle.rg_input.specs.Numbers.{Follows, OnInput};
 ghost use Rattle.rg_stack.specs.Machine.{Machine as StackMachine};
 ghost use Rattle.rg_machine.specs.Parts.{machine_in};
 ghost use Rattle.rg_machine.specs.Cores.{core_of};
-ghost use Rattle.rg_known.specs.Walks.{walk_from};
+ghost use Rattle.rg_compute.specs.Walks.{walk_from};
 ghost use Rattle.rg_step.specs.Inner.Refusals.{Stands};
 ghost use Rattle.rg_step.specs.Inner.Walks.{ComesTo, Lands, UnstuckOn};
 

@@ -29,7 +29,7 @@ use rg_frames::Frames;
 use rg_heap::{Active, Heap};
 use rg_input::Numbers;
 use rg_io::Source;
-use rg_known::Stack;
+use rg_compute::Stack;
 use rg_machine::Machine;
 use rg_pace::Pacer;
 use std::alloc::Global;

@@ -1,7 +1,7 @@
 //! The loop over the instructions of a step (docs/architecture.md, "The stepper").
 
 ghost use Rattle.rg_machine.specs.Cores.{core_of};
-ghost use Rattle.rg_known.specs.Walks.{Unstuck, walk_from};
+ghost use Rattle.rg_compute.specs.Walks.{Unstuck, walk_from};
 ghost use Rattle.rg_step.specs.Inner.Walks.{WalkEnds};
 
 use crate::room::make_room;

@@ -27,8 +27,8 @@ use Rattle.rg_stack.proofs.Callers.Mark.{drop-stands, first-drop, lies_at_mark, 
 use Rattle.rg_held.specs.Frees.{free_step_from as step_from}
 use Rattle.rg_machine.specs.Parts.{Parts, machine_in}
 use Rattle.rg_machine.proofs.Callers.High.{none-same}
-use Rattle.rg_known.specs.Known.{GoesTo, with_left}
-use Rattle.rg_known.proofs.Shape.{lands, whole}
+use Rattle.rg_compute.specs.Known.{GoesTo, with_left}
+use Rattle.rg_compute.proofs.Shape.{lands, whole}
 use Rattle.rg_step.specs.Frees.{FreesOnly, StaysGone}
 use Rattle.rg_step.specs.Inner.Serving.{is_asked}
 use Rattle.rg_step.specs.States.{Raises}

@@ -6,7 +6,7 @@ use Rattle.rg_heap.specs.Parts.{Parts as HeapParts}
 use Rattle.rg_machine.specs.Keeps.{SameBacks}
 use Rattle.rg_machine.specs.Parts.{Parts, machine_in}
 use Rattle.rg_machine.specs.Cores.{core_of}
-use Rattle.rg_known.specs.Walks.{walk_from}
+use Rattle.rg_compute.specs.Walks.{walk_from}
 use Rattle.rg_step.specs.Inner.High.{MayMake}
 use Rattle.rg_step.specs.Inner.Refusals.{Stands, Unread}
 

@@ -6,8 +6,8 @@ use Rattle.rg_io.proofs.Content.{Rose-since}
 use Rattle.rg_input.specs.Numbers.{Answers, Looks}
 use Rattle.rg_input.proofs.Input.{OnInput-map, OnInput-both}
 use Rattle.rg_machine.specs.Core.{below_top, with_top}
-use Rattle.rg_known.specs.Walks.{walk_from}
-use Rattle.rg_known.proofs.Turn.{past-code}
+use Rattle.rg_compute.specs.Walks.{walk_from}
+use Rattle.rg_compute.proofs.Turn.{past-code}
 use Rattle.rg_step.specs.declared.asks.Landing.TheVariants as landing
 use Rattle.rg_step.specs.declared.stopped.Stopped.TheVariants as stopped
 use Rattle.rg_step.specs.Inner.Refusals.{stopped_by}

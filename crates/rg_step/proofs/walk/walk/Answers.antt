@@ -3,8 +3,8 @@ use Rattle.std.proofs.lemmas.Result.{err_from_is_err_and}
 use Rattle.rg_stack.specs.Refusals.{manner}
 use Rattle.rg_machine.specs.Core.{Core}
 use Rattle.rg_machine.specs.Keeps.{WantsRoom}
-use Rattle.rg_known.specs.Walks.{walk_from}
-use Rattle.rg_known.proofs.Turn.{given-here, past-code, turn-on, turn-to, turn-back, turn-ends, turn-read, turn-more, turn-room, turn-full}
+use Rattle.rg_compute.specs.Walks.{walk_from}
+use Rattle.rg_compute.proofs.Turn.{given-here, past-code, turn-on, turn-to, turn-back, turn-ends, turn-read, turn-more, turn-room, turn-full}
 use Rattle.rg_step.specs.Inner.Walks.{RoomIs}
 use Rattle.rg_step.proofs.Walking.Stands.{stands-on, stands-to, stands-back, stands-left, stands-asking, stands-number, stands-free, stands-roomless}
 use Rattle.rg_step.specs.Inner.High.{MayMake, OneAtMost}
