@@ -1,23 +1,8 @@
--- Parts that are read or written one behind the other, as a loop does.
-use Rattle.std.proofs.Common.{◌≡◌, ℕ, ◌-◌, ◌+◌, ◌<◌, List, [], ◌∷◌, ◌++◌, take, slice_get, Option, Some, sym, ap, ◌∙◌, append_assoc}
+-- Parts that are written one behind the other, as a loop does.
+use Rattle.std.proofs.Common.{◌≡◌, ℕ, ◌+◌, List, [], ◌∷◌, ◌++◌, take, slice_get, Some, sym, ap, ◌∙◌, append_assoc}
 use Rattle.std.specs.List.{flat_map}
 use Rattle.std.proofs.lemmas.List.{take_more, flat_map_more}
 use Rattle.std.proofs.lemmas.Option.{slice_get_within, get_or_from_slice_get}
-use Rattle.rg_spell.specs.declared.refusal.Refusal.TheVariants as module_refusal
-use Rattle.rg_spell.specs.Reading.{many_at}
-use Rattle.rg_spell.proofs.Loops as loops
-use Rattle.rg_spell.proofs.Loops.{with_front}
-use Rattle.rg_image.specs.declared.refusal.Refusal.{Refusal}
-use Rattle.rg_image.specs.declared.refusal.Refusal.TheVariants as refusal
-use Rattle.rg_image.specs.Inner.Reading.{Fails}
-
--- a part that isn't read ends the loop
-pub ends : {A : Type 0} (reader : List ℕ → Option (A × List ℕ)) (e : Refusal) (front : List A) (count i : ℕ) (bytes : List ℕ)
-    (total : Option (List A × List ℕ))
-    → i < count → Fails e (reader bytes) → with_front front (many_at reader (count - i) bytes) ≡ total → Fails e total
-ends reader refusal.Memory front count i bytes total lt h so_far = tt
-ends reader refusal.NotImage front count i bytes total lt h so_far =
-    loops.ends reader module_refusal.NotModule front count i bytes total lt h so_far
 
 -- one part more that is written
 pub text-next : {A : Type 0} (part : A → List ℕ) (xs : List A) (k : ℕ) (x : A) (front old mid new : List ℕ) → slice_get xs k ≡ Some x

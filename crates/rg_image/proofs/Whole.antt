@@ -1,6 +1,6 @@
 -- Images as a whole: what is read of all bytes, and what decoding answers.
 use Rattle.std.proofs.Common.{◌≡◌, ℕ, ◌+◌, Bool, true, false, cond, eqb, List, [], ◌++◌, length, take, drop, codes, bytes_eq, Option, Some, None}
-use Rattle.std.proofs.Common.{Err, MatchOption, Bor, nat_eq, refl, sym, ap, subst, ◌∙◌}
+use Rattle.std.proofs.Common.{MatchOption, Bor, nat_eq, refl, sym, ap, subst, ◌∙◌}
 use Rattle.std.specs.Cmp.Lexicographic.{pointwise}
 use Rattle.std.proofs.lemmas.Bool.{eqb-true, false≢true}
 use Rattle.std.proofs.lemmas.List.{append-nil, nil_from_length, take-append-drop, take_at, drop_at}
@@ -11,11 +11,9 @@ use Rattle.rg_typed.specs.Typed.{is_typed}
 use Rattle.rg_spell.specs.Laws.{IsBytes, Takes}
 use Rattle.rg_spell.specs.Reading.{◌>>=◌, Finds}
 use Rattle.rg_spell.proofs.Readers.{IsBytes-drop, bind_some, some_is}
-use Rattle.rg_image.specs.declared.refusal.Refusal.{Refusal}
-use Rattle.rg_image.specs.declared.refusal.Refusal.TheVariants as refusal
 use Rattle.rg_image.specs.ImageText.{content_bytes, image_text, FitsContent}
-use Rattle.rg_image.specs.Images.{IsContent, IsImage, Refuses, Answers, OneContent}
-use Rattle.rg_image.specs.Inner.Reading.{Fails, content_at, magic_at, image_at}
+use Rattle.rg_image.specs.Images.{IsContent, IsImage, OneContent}
+use Rattle.rg_image.specs.Inner.Reading.{content_at, magic_at, image_at}
 use Rattle.rg_image.proofs.Parts.{reads_content}
 
 -- what stands behind the word in front
@@ -96,16 +94,6 @@ again t bytes content read other is = some_is content other (sym read ∙ read_a
 -- bytes of which nothing was read
 pub unread : (t : Tree) (bytes : List ℕ) → image_at bytes ≡ None → (content : Option CargoList) → IsImage t bytes content → ⊥
 unread t bytes read content is = let there = read_again t bytes content is in absurd cc
-
--- a refusal to read
-pub refused : (t : Tree) (bytes : List ℕ) (e : Refusal) → Fails e (image_at bytes) → Refuses t bytes e
-refused t bytes refusal.NotImage read = unread t bytes read
-refused t bytes refusal.Memory read = tt
-
-pub refused-again : (t : Tree) (bytes : List ℕ) (e : Refusal) → Fails e (image_at bytes) → (content : Option CargoList)
-    → IsImage t bytes content → Answers (Err e) content
-refused-again t bytes refusal.NotImage read content is = unread t bytes read content is
-refused-again t bytes refusal.Memory read content is = tt
 
 -- a cargo that was read and isn't sound, or isn't typed
 pub unsound : (t : Tree) (bytes : List ℕ) (c : CargoList) → Read bytes (Some c) → is_sound c ≡ false → (content : Option CargoList)

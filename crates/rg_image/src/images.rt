@@ -7,15 +7,15 @@ ghost use Rattle.rg_names.specs.TableOf.{IsTableOf};
 ghost use Rattle.rg_cown.specs.Cargo.{CargoList};
 ghost use Rattle.rg_image.specs.ImageText.{image_text};
 ghost use Rattle.rg_image.specs.Inner.Ranges.{RangedContent};
-ghost use Rattle.rg_image.specs.Images.{IsContent, IsImage, Decodes, Answers};
+ghost use Rattle.rg_image.specs.Images.{IsContent, IsImage, Decodes, Answers, not_image};
 
 use crate::reading::read;
-use crate::refusal::Refusal;
 use crate::sound::is_sound;
 use crate::writing::write_content;
-use rg_base::{ByteList, Memory};
+use rg_base::{ByteList, Code, Fault, Memory, Stop};
 use rg_cown::Cargo;
 use rg_names::Classes;
+use rg_spell::Refusal;
 use rg_tree::Program;
 use rg_typed::is_typed;
 use std::alloc::Global;
@@ -41,14 +41,22 @@ pub fn encode(alloc: Global, content: Option<&Cargo>) -> Result<ByteList, Memory
     Ok(bytes)
 }
 
-/// The content whose image the bytes are, for a program with its class table. Each byte is looked
-/// at once, and a count takes no memory before its parts are there.
+// What bytes that are no image are answered with.
+fn no_image() -> Stop
+    ensures { result ≡ Stop.Fault not_image }
+{
+    let code = Code::Image;
+    Stop::Fault(Fault { code, line: 0 })
+}
+
+/// The content whose image the bytes are, for a program with its class table, or `E95` at line 0.
+/// Each byte is looked at once, and a count takes no memory before its parts are there.
 pub fn decode(
     alloc: Global,
     bytes: &[u8],
     program: &Program,
     classes: &Classes,
-) -> Result<Option<Cargo>, Refusal>
+) -> Result<Option<Cargo>, Stop>
     requires { IsTableOf program.now classes.now }
     ensures image { Decodes (program_of program.now) bytes.now result }
     ensures again { (content : Option CargoList)
@@ -56,19 +64,20 @@ pub fn decode(
 {
     let content = match read(alloc, bytes) {
         Ok(content) => content,
-        Err(e) => return Err(e),
+        Err(Refusal::NotSpelt) => return Err(no_image()),
+        Err(Refusal::Memory) => return Err(Stop::Memory),
     };
     let Some(cargo) = content else {
         return Ok(None);
     };
     let Ok(sound) = is_sound(alloc, &cargo) else {
-        return Err(Refusal::Memory);
+        return Err(Stop::Memory);
     };
     if !sound {
-        return Err(Refusal::NotImage);
+        return Err(no_image());
     }
     if !is_typed(&cargo, program, classes) {
-        return Err(Refusal::NotImage);
+        return Err(no_image());
     }
     Ok(Some(cargo))
 }

@@ -2,17 +2,16 @@
 //! (docs/architecture.md, "Images"). No count takes memory: a part takes it when it is there.
 
 ghost use Rattle.std.specs.Prelude.{◌≡◌, [], IfOk};
-ghost use Rattle.rg_spell.specs.Reading.{Finds, manager_at, many_at};
-ghost use Rattle.rg_image.specs.Inner.Reading.{Gives, count_at, counted_at};
+ghost use Rattle.rg_spell.specs.Reading.{Finds, Gives, manager_at, many_at};
+ghost use Rattle.rg_image.specs.Inner.Reading.{count_at, counted_at};
 ghost use Rattle.rg_image.specs.Inner.Reading.{int_at, truth_at, object_at, value_behind, value_at};
 ghost use Rattle.rg_image.specs.Inner.Reading.{region_at, label_behind, label_at, cell_at};
 ghost use Rattle.rg_image.specs.Inner.Reading.{cargo_at, held_at, content_behind, content_at};
 ghost use Rattle.rg_image.specs.Inner.Reading.{magic_at, image_at};
 
-use crate::refusal::Refusal;
 use rg_base::{Label, Val, Vals};
 use rg_cown::{Cargo, CargoCell};
-use rg_spell::{take_bool, take_byte, take_i64, take_manager, take_u32, take_u64};
+use rg_spell::{Refusal, take_bool, take_byte, take_i64, take_manager, take_u32, take_u64};
 use std::alloc::Global;
 
 // A count of parts, each of at least one byte.
@@ -129,7 +128,7 @@ fn take_many_values(alloc: Global, count: u64, bytes: &[u8]) -> Result<(Vals, &[
     let mut rest = bytes;
     for _ in 0..count {
         let Some((value, after)) = take_value(rest) else {
-            return Err(Refusal::NotImage);
+            return Err(Refusal::NotSpelt);
         };
         let Ok(()) = values.push(value) else {
             return Err(Refusal::Memory);
@@ -145,7 +144,7 @@ fn take_values(alloc: Global, bytes: &[u8]) -> Result<(Vals, &[u8]), Refusal>
     ensures { Gives (λ x. (x.0, x.1.now)) result (counted_at value_at bytes.now) }
 {
     let Some((count, rest)) = take_count(bytes) else {
-        return Err(Refusal::NotImage);
+        return Err(Refusal::NotSpelt);
     };
     take_many_values(alloc, count, rest)
 }
@@ -156,10 +155,10 @@ fn take_cell(alloc: Global, bytes: &[u8]) -> Result<(CargoCell, &[u8]), Refusal>
     ensures { Gives (λ x. (x.0, x.1.now)) result (cell_at bytes.now) }
 {
     let Some((class, rest)) = take_u32(bytes) else {
-        return Err(Refusal::NotImage);
+        return Err(Refusal::NotSpelt);
     };
     let Some((label, rest)) = take_label(rest) else {
-        return Err(Refusal::NotImage);
+        return Err(Refusal::NotSpelt);
     };
     let (fields, rest) = match take_values(alloc, rest) {
         Ok(pair) => pair,
@@ -182,7 +181,7 @@ fn take_many_managers(alloc: Global, count: u64, bytes: &[u8]) -> Result<(Cargo,
     let mut rest = bytes;
     for _ in 0..count {
         let Some((manager, after)) = take_manager(rest) else {
-            return Err(Refusal::NotImage);
+            return Err(Refusal::NotSpelt);
         };
         let Ok(()) = cargo.add_manager(manager) else {
             return Err(Refusal::Memory);
@@ -199,7 +198,7 @@ fn take_managers(alloc: Global, bytes: &[u8]) -> Result<(Cargo, &[u8]), Refusal>
     ensures cells { IfOk result (λ x. x.0.cells ≡ []) }
 {
     let Some((count, rest)) = take_count(bytes) else {
-        return Err(Refusal::NotImage);
+        return Err(Refusal::NotSpelt);
     };
     take_many_managers(alloc, count, rest)
 }
@@ -238,7 +237,7 @@ fn take_cells(alloc: Global, managers: Cargo, bytes: &[u8]) -> Result<(Cargo, &[
     ensures managers { IfOk result (λ x. x.0.managers ≡ managers.managers) }
 {
     let Some((count, rest)) = take_count(bytes) else {
-        return Err(Refusal::NotImage);
+        return Err(Refusal::NotSpelt);
     };
     take_many_cells(alloc, managers, count, rest)
 }
@@ -283,7 +282,7 @@ fn take_content_behind(
     match kind {
         0 => Ok((None, bytes)),
         1 => take_held(alloc, bytes),
-        _ => Err(Refusal::NotImage),
+        _ => Err(Refusal::NotSpelt),
     }
 }
 
@@ -293,7 +292,7 @@ fn take_content(alloc: Global, bytes: &[u8]) -> Result<(Option<Cargo>, &[u8]), R
     ensures { Gives (λ x. (x.0, x.1.now)) result (content_at bytes.now) }
 {
     let Some((kind, rest)) = take_byte(bytes) else {
-        return Err(Refusal::NotImage);
+        return Err(Refusal::NotSpelt);
     };
     take_content_behind(alloc, kind, rest)
 }
@@ -311,14 +310,14 @@ pub(crate) fn read(alloc: Global, bytes: &[u8]) -> Result<Option<Cargo>, Refusal
     ensures { Gives (λ content. content) result (image_at bytes.now) }
 {
     let Some(rest) = take_magic(bytes) else {
-        return Err(Refusal::NotImage);
+        return Err(Refusal::NotSpelt);
     };
     let (content, rest) = match take_content(alloc, rest) {
         Ok(pair) => pair,
         Err(e) => return Err(e),
     };
     if !rest.is_empty() {
-        return Err(Refusal::NotImage);
+        return Err(Refusal::NotSpelt);
     }
     Ok(content)
 }

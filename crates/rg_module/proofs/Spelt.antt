@@ -1,6 +1,6 @@
 -- The two laws of a module's bytes, and what reading a module answers.
 use Rattle.std.proofs.Common.{◌≡◌, ℕ, suc, Bool, true, false, cond, eqb, List, [], ◌∷◌, ◌++◌, length, map, zip, codes, Option, Some, None}
-use Rattle.std.proofs.Common.{Result, Ok, Err, refl, sym, ap, subst, ◌∙◌}
+use Rattle.std.proofs.Common.{refl, sym, ap, subst, ◌∙◌}
 use Rattle.std.proofs.lemmas.Bool.{eqb-true}
 use Rattle.std.proofs.lemmas.List.{append-nil, nil_from_length}
 use Rattle.std.proofs.lemmas.Slice.Zip.{firsts-zip, seconds-zip}
@@ -8,8 +8,6 @@ use Rattle.rg_base.specs.declared.words.Manager.{Manager}
 use Rattle.rg_base.specs.declared.ty.Ty.{Ty}
 use Rattle.rg_code.specs.declared.op.Op.{Op}
 use Rattle.rg_code.specs.Code.{Code}
-use Rattle.rg_spell.specs.declared.refusal.Refusal.{Refusal}
-use Rattle.rg_spell.specs.declared.refusal.Refusal.TheVariants as refusal
 use Rattle.rg_spell.specs.declared.rows.Shape.{Shape}
 use Rattle.rg_spell.specs.declared.rows.Head.{Head}
 use Rattle.rg_module.specs.Parts.{Parts}
@@ -17,8 +15,8 @@ use Rattle.rg_module.specs.Follows.{code_for}
 use Rattle.rg_spell.specs.Spelling.{manager_number, counted, Counted, shape_bytes, FitsShape, head_bytes, FitsHead, row_bytes, FitsRow}
 use Rattle.rg_module.specs.Spelling.{rows_of}
 use Rattle.rg_module.specs.Spelling.{spelling, IsSpelt, Spells}
-use Rattle.rg_module.specs.Laws.{Decodes, IsModule, SpellsOneModule}
-use Rattle.rg_spell.specs.Reading.{◌>>=◌, Gives, counted_at, manager_at, shape_at, head_at, row_at}
+use Rattle.rg_module.specs.Laws.{SpellsOneModule}
+use Rattle.rg_spell.specs.Reading.{◌>>=◌, counted_at, manager_at, shape_at, head_at, row_at}
 use Rattle.rg_module.specs.Inner.Reading.{magic_at, module_of, rows_behind}
 use Rattle.rg_module.specs.Inner.Reading.{heads_behind, shapes_behind, manager_behind, module_at}
 use Rattle.rg_spell.specs.Laws.{IsBytes, Takes, Reads}
@@ -128,7 +126,7 @@ spelt_so bytes a b c k classes methods m front manager shapes fit_shapes fit_hea
     let whole : bytes ≡ written read.rows = goes_so bytes (codes "RGM1") a _ front (manager ∙ ap (λ (y : List ℕ). manager_number k ∷ y) behind) in
     subst (Spells bytes) read.is (record { spelt = spelt; same = whole ∙ ap written (sym rows) })
 
-module_takes : (bytes : List ℕ) (m : Parts) → IsBytes bytes → module_at bytes ≡ Some m → Spells bytes m
+pub module_takes : (bytes : List ℕ) (m : Parts) → IsBytes bytes → module_at bytes ≡ Some m → Spells bytes m
 unfolding module_at manager_behind shapes_behind
 module_takes bytes m fits e =
     let a = bind_some (magic_at bytes) manager_behind m e in
@@ -181,12 +179,9 @@ read_again bytes m s = ap module_at s.same ∙ module_again m s.spelt
 pub spells_one : SpellsOneModule
 spells_one bytes m n p q = some_is m n (sym (read_again bytes m p) ∙ read_again bytes n q)
 
-pub is_decoded : (bytes : List ℕ) (r : Result Parts Refusal) → IsBytes bytes → Gives (λ m. m) r (module_at bytes) → Decodes bytes r
-is_decoded bytes (Ok m) fits given = module_takes bytes m fits given
-is_decoded bytes (Err refusal.NotModule) fits given = λ m s. let there = read_again bytes m s in absurd cc
-is_decoded bytes (Err refusal.Memory) fits given = tt
+-- bytes of which nothing was read
+pub unread : (bytes : List ℕ) → module_at bytes ≡ None → (m : Parts) → Spells bytes m → ⊥
+unread bytes given m s = let there = read_again bytes m s in absurd cc
 
-pub is_again : (bytes : List ℕ) (r : Result Parts Refusal) → Gives (λ m. m) r (module_at bytes) → (m : Parts) → Spells bytes m → IsModule r m
-is_again bytes (Ok n) given m s = some_is n m (sym given ∙ read_again bytes m s)
-is_again bytes (Err refusal.NotModule) given m s = let there = read_again bytes m s in absurd cc
-is_again bytes (Err refusal.Memory) given m s = tt
+pub is_again : (bytes : List ℕ) (n : Parts) → module_at bytes ≡ Some n → (m : Parts) → Spells bytes m → n ≡ m
+is_again bytes n given m s = some_is n m (sym given ∙ read_again bytes m s)

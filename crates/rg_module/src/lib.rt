@@ -2,10 +2,11 @@
 //! its bytes (docs/architecture.md, "Modules"). `Module` shows the manager, the classes (`Shape`),
 //! the heads of the methods (`Head`), the code and a map for each instruction (`specs/Parts`).
 //! `encode` gives exactly the bytes of `spelling` in `specs/Spelling`, or no memory was found; it
-//! wants a module that some bytes spell (`IsSpelt`). `decode` gives the module that the bytes spell
-//! (clause `spelt`), and where they spell one, no refusal but `Memory` (clause `again`). The law
-//! `at_most_one_module`: bytes spell at most one module. The bytes of classes, heads and
-//! instructions are those of `rg_spell`. All else in the crate is private.
+//! wants a module that some bytes spell (`IsSpelt`). `decode` gives the module that the bytes
+//! spell, or `E91` where they spell none (clause `spelt`); where they spell one, it gives no
+//! refusal but `Memory` (clause `again`). The law `at_most_one_module`: bytes spell at most one
+//! module. The bytes of classes, heads and instructions are those of `rg_spell`. All else in the
+//! crate is private.
 #![tactic(auto)]
 
 mod follows;
@@ -16,5 +17,5 @@ mod whole;
 
 pub use laws::at_most_one_module;
 pub use parts::Module;
-pub use rg_spell::{Head, Refusal, Shape, Tys};
+pub use rg_spell::{Head, Shape, Tys};
 pub use whole::{decode, encode};

@@ -54,7 +54,7 @@ pub(crate) fn take_rows(alloc: Global, bytes: &[u8]) -> Result<(Read, &[u8]), Re
     ensures bare { IfOk result (λ x. IsBare x.0.code x.0.maps.items) }
 {
     let Some((count, rest)) = take_u32(bytes) else {
-        return Err(Refusal::NotModule);
+        return Err(Refusal::NotSpelt);
     };
     take_many_rows(alloc, count, rest)
 }

@@ -13,7 +13,7 @@ ghost use Rattle.rg_module.specs.Inner.Rows.{rows_of, IsBare};
 use crate::follows::complete;
 use crate::parts::Module;
 use crate::rows::{Read, take_rows, write_rows};
-use rg_base::{ByteList, Manager, Memory};
+use rg_base::{ByteList, Code, Fault, Manager, Memory, Stop};
 use rg_spell::{
     Head, Refusal, Shape, take_heads, take_manager, take_shapes, write_heads, write_manager,
     write_shapes,
@@ -72,7 +72,7 @@ fn read_rows(
         Err(e) => return Err(e),
     };
     if !rest.is_empty() {
-        return Err(Refusal::NotModule);
+        return Err(Refusal::NotSpelt);
     }
     whole(alloc, manager, classes, methods, found)
 }
@@ -136,7 +136,7 @@ fn read_manager(alloc: Global, bytes: &[u8]) -> Result<Module, Refusal>
     ensures { Gives (λ m. m) result (manager_behind bytes.now) }
 {
     let Some((manager, rest)) = take_manager(bytes) else {
-        return Err(Refusal::NotModule);
+        return Err(Refusal::NotSpelt);
     };
     read_shapes(alloc, manager, rest)
 }
@@ -147,15 +147,22 @@ fn read(alloc: Global, bytes: &[u8]) -> Result<Module, Refusal>
     ensures { Gives (λ m. m) result (module_at bytes.now) }
 {
     let Some(rest) = take_magic(bytes) else {
-        return Err(Refusal::NotModule);
+        return Err(Refusal::NotSpelt);
     };
     read_manager(alloc, rest)
 }
 
-/// The module that the bytes spell. A count that is read reserves nothing.
-pub fn decode(alloc: Global, bytes: &[u8]) -> Result<Module, Refusal>
+/// The module that the bytes spell, or `E91` at line 0. A count that is read reserves nothing.
+pub fn decode(alloc: Global, bytes: &[u8]) -> Result<Module, Stop>
     ensures spelt { Decodes bytes.now result }
     ensures again { (m : Parts) → Spells bytes.now m → IsModule result m }
 {
-    read(alloc, bytes)
+    match read(alloc, bytes) {
+        Ok(module) => Ok(module),
+        Err(Refusal::NotSpelt) => {
+            let code = Code::Module;
+            Err(Stop::Fault(Fault { code, line: 0 }))
+        }
+        Err(Refusal::Memory) => Err(Stop::Memory),
+    }
 }

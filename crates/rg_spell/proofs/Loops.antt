@@ -30,7 +30,7 @@ pub ends : {A : Type 0} (reader : List ℕ → Option (A × List ℕ)) (e : Refu
     → i < count → Fails e (reader bytes) → with_front front (many_at reader (count - i) bytes) ≡ total → Fails e total
 unfolding many_at
 ends reader refusal.Memory front count i bytes total lt h so_far = tt
-ends reader refusal.NotModule front count i bytes total lt h so_far =
+ends reader refusal.NotSpelt front count i bytes total lt h so_far =
     let k : count - i ≡ suc (count - (i + 1)) = omega arith in
     let one : with_front front (many_at reader (count - i) bytes) ≡ None = rw (k, h) refl in
     sym so_far ∙ one

@@ -33,7 +33,7 @@ Finds view None read = read ≡ None
 
 -- the same, unless there was no memory
 abbrev pub Fails : {Y : Type 0} → Refusal → Option Y → Type 0
-Fails refusal.NotModule read = read ≡ None
+Fails refusal.NotSpelt read = read ≡ None
 Fails refusal.Memory read = Unit {0}
 
 abbrev pub Gives : {X Y : Type 0} → (X → Y) → Result X Refusal → Option Y → Type 0

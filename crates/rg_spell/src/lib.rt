@@ -4,7 +4,7 @@
 //! found; they want parts that have a spelling (`FitsShape`, `FitsHead`, `FitsRow`).
 //! `take_manager`, `take_shapes`, `take_heads` and `take_row` read a part from the front of bytes,
 //! by the definitions of `specs/Reading`, and answer it with the bytes behind it. Where no such
-//! part stands there, and only there, they answer `None` or `NotModule`. The law
+//! part stands there, and only there, they answer `None` or `NotSpelt`. The law
 //! `parts_are_read_back` joins the two: what is read was spelled, and what is spelled is read.
 #![tactic(auto)]
 

@@ -134,7 +134,7 @@ pub fn take_row(alloc: Global, bytes: &[u8]) -> Result<(Op, Tys, &[u8]), Refusal
     ensures { Gives (λ x. ((x.0, x.1), x.2.now)) result (row_at bytes.now) }
 {
     let Some((op, rest)) = take_op(bytes) else {
-        return Err(Refusal::NotModule);
+        return Err(Refusal::NotSpelt);
     };
     let (map, rest) = match take_map(alloc, is_mark(op), rest) {
         Ok(pair) => pair,

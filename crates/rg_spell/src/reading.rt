@@ -170,7 +170,7 @@ fn take_many(alloc: Global, count: u32, bytes: &[u8]) -> Result<(Tys, &[u8]), Re
     let mut rest = bytes;
     for _ in 0..count {
         let Some((ty, after)) = take_type(rest) else {
-            return Err(Refusal::NotModule);
+            return Err(Refusal::NotSpelt);
         };
         let Ok(()) = types.push(ty) else {
             return Err(Refusal::Memory);
@@ -186,7 +186,7 @@ pub(crate) fn take_types(alloc: Global, bytes: &[u8]) -> Result<(Tys, &[u8]), Re
     ensures { Gives (λ x. (x.0, x.1.now)) result (counted_at ty_at bytes.now) }
 {
     let Some((count, rest)) = take_u32(bytes) else {
-        return Err(Refusal::NotModule);
+        return Err(Refusal::NotSpelt);
     };
     take_many(alloc, count, rest)
 }
@@ -197,7 +197,7 @@ fn take_array(alloc: Global, is_tmp: bool, bytes: &[u8]) -> Result<(Shape, &[u8]
     ensures { Gives (λ x. (x.0, x.1.now)) result (members_at is_tmp true bytes.now) }
 {
     let Some((element, rest)) = take_type(bytes) else {
-        return Err(Refusal::NotModule);
+        return Err(Refusal::NotSpelt);
     };
     let shape = Shape {
         is_tmp,
@@ -230,10 +230,10 @@ fn take_shape(alloc: Global, bytes: &[u8]) -> Result<(Shape, &[u8]), Refusal>
     ensures { Gives (λ x. (x.0, x.1.now)) result (shape_at bytes.now) }
 {
     let Some((is_tmp, rest)) = take_bool(bytes) else {
-        return Err(Refusal::NotModule);
+        return Err(Refusal::NotSpelt);
     };
     let Some((is_array, rest)) = take_bool(rest) else {
-        return Err(Refusal::NotModule);
+        return Err(Refusal::NotSpelt);
     };
     if is_array {
         return take_array(alloc, is_tmp, rest);
@@ -266,7 +266,7 @@ pub fn take_shapes(alloc: Global, bytes: &[u8]) -> Result<(Vec<Shape>, &[u8]), R
     ensures { Gives (λ x. (x.0.items, x.1.now)) result (counted_at shape_at bytes.now) }
 {
     let Some((count, rest)) = take_u32(bytes) else {
-        return Err(Refusal::NotModule);
+        return Err(Refusal::NotSpelt);
     };
     take_many_shapes(alloc, count, rest)
 }
@@ -302,17 +302,17 @@ fn take_head(alloc: Global, bytes: &[u8]) -> Result<(Head, &[u8]), Refusal>
     ensures { Gives (λ x. (x.0, x.1.now)) result (head_at bytes.now) }
 {
     let Some((class, rest)) = take_u32(bytes) else {
-        return Err(Refusal::NotModule);
+        return Err(Refusal::NotSpelt);
     };
     let Some((cap, rest)) = take_cap(rest) else {
-        return Err(Refusal::NotModule);
+        return Err(Refusal::NotSpelt);
     };
     let (params, rest) = match take_types(alloc, rest) {
         Ok(pair) => pair,
         Err(e) => return Err(e),
     };
     let Some((result, rest)) = take_result(rest) else {
-        return Err(Refusal::NotModule);
+        return Err(Refusal::NotSpelt);
     };
     let head = Head {
         class,
@@ -348,7 +348,7 @@ pub fn take_heads(alloc: Global, bytes: &[u8]) -> Result<(Vec<Head>, &[u8]), Ref
     ensures { Gives (λ x. (x.0.items, x.1.now)) result (counted_at head_at bytes.now) }
 {
     let Some((count, rest)) = take_u32(bytes) else {
-        return Err(Refusal::NotModule);
+        return Err(Refusal::NotSpelt);
     };
     take_many_heads(alloc, count, rest)
 }

@@ -1,10 +1,10 @@
 //! Why bytes aren't read (docs/architecture.md, "Modules").
 
-/// Why there is no module.
+/// Why no part was read.
 #[derive(Clone, Copy, Debug)]
 pub enum Refusal {
-    /// the bytes spell no module
-    NotModule,
+    /// no such part begins the bytes
+    NotSpelt,
     /// no memory was found
     Memory,
 }

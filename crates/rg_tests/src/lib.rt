@@ -10,6 +10,8 @@ mod flow;
 #[cfg(test)]
 mod generated;
 #[cfg(test)]
+mod images;
+#[cfg(test)]
 mod lists;
 #[cfg(test)]
 mod modules;

@@ -1,8 +1,8 @@
 //! Bytes that spell a module, and bytes that spell none (docs/architecture.md, "Modules").
 
-use rg_base::{Cap, Manager, Memory, Ty};
+use rg_base::{Cap, Code, Fault, Manager, Memory, Stop, Ty};
 use rg_code::{CodeList, Entry};
-use rg_module::{Head, Module, Refusal, Shape, decode, encode};
+use rg_module::{Head, Module, Shape, decode, encode};
 use std::alloc::Global;
 use std::test::*;
 
@@ -120,6 +120,11 @@ static ROWS: [(&str, &[u8], bool); 24] = [
     ),
 ];
 
+const NOT_MODULE: Fault = Fault {
+    code: Code::Module,
+    line: 0,
+};
+
 // Whether bytes spell a module or none, as is said of them, and the module's bytes are these.
 fn is_as_said(alloc: Global, bytes: &[u8], is_module: bool) -> Result<bool, Memory> {
     match decode(alloc, bytes) {
@@ -127,8 +132,8 @@ fn is_as_said(alloc: Global, bytes: &[u8], is_module: bool) -> Result<bool, Memo
             let written = encode(alloc, &module)?;
             Ok(is_module && written.bytes() == bytes)
         }
-        Err(Refusal::NotModule) => Ok(!is_module),
-        Err(Refusal::Memory) => Err(Memory),
+        Err(Stop::Fault(fault)) => Ok(!is_module && fault == NOT_MODULE),
+        Err(Stop::Memory) => Err(Memory),
     }
 }
 

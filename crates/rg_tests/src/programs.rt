@@ -16,7 +16,7 @@ use std::alloc::Global;
 use std::test::*;
 
 /// The program of a source.
-fn parsed(alloc: Global, source: &[u8]) -> Result<Program, Stop>
+pub(crate) fn parsed(alloc: Global, source: &[u8]) -> Result<Program, Stop>
     ensures { IfOk result (λ p. FewNames (program_of p)) }
 {
     spelt_has_few_names();

@@ -1,5 +1,5 @@
 -- A content read from the front of bytes, part by part: a part and the bytes behind it, or nothing where no such part begins them.
-use Rattle.std.specs.Prelude.{◌≡◌, ℕ, nat_lt, ◌==◌, if◌then◌else◌, bytes_eq, codes, List, length, take, drop, Option, Some, None, Result, Ok, Err}
+use Rattle.std.specs.Prelude.{ℕ, nat_lt, ◌==◌, if◌then◌else◌, bytes_eq, codes, List, length, take, drop, Option, Some, None}
 use Rattle.std.specs.Int.{w32, w64}
 use Rattle.rg_base.specs.declared.object.Label.{Label}
 use Rattle.rg_base.specs.declared.object.Label.TheVariants.{Region, Frozen}
@@ -8,17 +8,6 @@ use Rattle.rg_base.specs.declared.value.Val.TheVariants.{Nil, Int, Bool, Obj}
 use Rattle.rg_cown.specs.declared.cargo.CargoCell.{CargoCell}
 use Rattle.rg_cown.specs.Cargo.{CargoList}
 use Rattle.rg_spell.specs.Reading.{◌>>=◌, number_at, byte_at, signed_at, bool_at, manager_at, many_at}
-use Rattle.rg_image.specs.declared.refusal.Refusal.{Refusal}
-use Rattle.rg_image.specs.declared.refusal.Refusal.TheVariants as refusal
-
--- what a function found, seen by view, is what reading gives, unless there was no memory
-abbrev pub Fails : {Y : Type 0} → Refusal → Option Y → Type 0
-Fails refusal.NotImage read = read ≡ None
-Fails refusal.Memory read = Unit {0}
-
-abbrev pub Gives : {X Y : Type 0} → (X → Y) → Result X Refusal → Option Y → Type 0
-Gives view (Ok x) read = read ≡ Some (view x)
-Gives view (Err e) read = Fails e read
 
 -- a count of parts; where it is more than there are bytes, there are not so many parts
 unfoldable pub count_at : List ℕ → Option (ℕ × List ℕ)

@@ -3,11 +3,11 @@ use Rattle.rg_tree.specs.Rows.RowTrees.{program_of}
 use Rattle.rg_image.proofs.Whole.{decoded, again, refused, refused-again, unsound, untyped}
 use Rattle.rg_image.proofs.images.decode.Goals as goal
 
-pub returns-in-Err-clause-image : goal.returns-in-Err-clause-image
-returns-in-Err-clause-image c = refused (program_of c.args.program.now) c.args.bytes.now c.in-Err.e c.in-Err.ensures
+pub returns-in-Err-NotSpelt-clause-image : goal.returns-in-Err-NotSpelt-clause-image
+returns-in-Err-NotSpelt-clause-image c = rw c.no_image.ensures (refl, unread (program_of c.args.program.now) c.args.bytes.now ?)
 
-pub returns-in-Err-clause-again : goal.returns-in-Err-clause-again
-returns-in-Err-clause-again c = refused-again (program_of c.args.program.now) c.args.bytes.now c.in-Err.e c.in-Err.ensures
+pub returns-in-Err-NotSpelt-clause-again : goal.returns-in-Err-NotSpelt-clause-again
+returns-in-Err-NotSpelt-clause-again c = rw c.no_image.ensures (unread (program_of c.args.program.now) c.args.bytes.now ?)
 
 pub returns-in_default-clause-image : goal.returns-in_default-clause-image
 returns-in_default-clause-image c =

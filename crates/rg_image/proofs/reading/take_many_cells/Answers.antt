@@ -1,7 +1,6 @@
 use Rattle.rg_spell.specs.Reading.{many_at}
-use Rattle.rg_spell.proofs.Loops.{goes_on, is_done}
+use Rattle.rg_spell.proofs.Loops.{goes_on, ends, is_done}
 use Rattle.rg_image.specs.Inner.Reading.{cell_at}
-use Rattle.rg_image.proofs.Loops.{ends}
 use Rattle.rg_image.proofs.reading.take_many_cells.Goals as goal
 
 pub returns-in-Err-clause-read : goal.returns-in-Err-clause-read

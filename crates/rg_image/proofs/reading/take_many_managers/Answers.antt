@@ -1,13 +1,12 @@
 use Rattle.rg_spell.specs.Reading.{many_at, manager_at}
-use Rattle.rg_spell.proofs.Loops.{goes_on, is_done}
-use Rattle.rg_image.specs.declared.refusal.Refusal.TheVariants as refusal
-use Rattle.rg_image.proofs.Loops.{ends}
+use Rattle.rg_spell.proofs.Loops.{goes_on, ends, is_done}
+use Rattle.rg_spell.specs.declared.refusal.Refusal.TheVariants as refusal
 use Rattle.rg_image.proofs.reading.take_many_managers.Goals as goal
 
 pub returns-in_default-clause-read : goal.returns-in_default-clause-read
 returns-in_default-clause-read c =
     let total = many_at manager_at c.args.count c.args.bytes.now in
-    ends manager_at refusal.NotImage c.loop.cargo.managers c.args.count c.loop.counter c.loop.rest.now total c.loop-test.true
+    ends manager_at refusal.NotSpelt c.loop.cargo.managers c.args.count c.loop.counter c.loop.rest.now total c.loop-test.true
     c.in_default.ensures c.loop.invariant.read
 
 pub loop-preserved : goal.loop-preserved

@@ -6,7 +6,7 @@ use Rattle.rg_spell.proofs.reading.take_many.Goals as goal
 pub returns-in_default : goal.returns-in_default
 returns-in_default c =
     let total = many_at ty_at c.args.count c.args.bytes.now in
-    ends ty_at refusal.NotModule c.loop.types c.args.count c.loop.counter c.loop.rest.now total c.loop-test.true c.in_default.ensures c.loop.invariant
+    ends ty_at refusal.NotSpelt c.loop.types c.args.count c.loop.counter c.loop.rest.now total c.loop-test.true c.in_default.ensures c.loop.invariant
 
 pub loop-preserved : goal.loop-preserved
 loop-preserved c =
