@@ -1,9 +1,11 @@
 -- The slots up to where the top frame ends, of all that there is room for, and the rows that stand for frames.
 use Rattle.std.proofs.Common.{◌≡◌, ◌≤◌, ◌<◌, ◌+◌, ◌-◌, ◌++◌, ◌∷◌, ℕ, zero, suc, [], Some, List, length, take, drop, replicate}
-use Rattle.std.proofs.Common.{slice_get, slice_index_or, slice_set, get_or, unwrap_or, None, refl, sym, ap, subst, ◌∙◌, arith, inl, inr, length-append}
+use Rattle.std.proofs.Common.{slice_get, slice_index_or, slice_set, get_or, unwrap_or, None, inl, inr}
+use Rattle.std.proofs.Common.{refl, sym, ap, subst, ◌∙◌, arith, length-append}
 use Rattle.std.proofs.Math.Seq.{take-append-add, take-append_seam, take-set-lt}
 use Rattle.std.proofs.lemmas.Bool.{cases_lt}
-use Rattle.std.proofs.lemmas.List.{length-drop, length-take-le, length-replicate, length-set, length-map, map-append, take-append-drop, take-append-le}
+use Rattle.std.proofs.lemmas.List.{length-drop, length-take-le, length-replicate, length-set, length-map}
+use Rattle.std.proofs.lemmas.List.{map-append, take-append-drop, take-append-le}
 use Rattle.std.proofs.lemmas.Option.{slice_get-get_or}
 use Rattle.rg_base.specs.declared.value.Word.{Word}
 use Rattle.rg_base.specs.declared.value.Word.TheVariants.{Nil}
@@ -294,7 +296,8 @@ pub longer-on : (slots new : List Word) (n capacity top : ℕ) → new ≡ slots
     → GoesOn capacity top (length new)
 longer-on slots new n capacity top e g = λ full.
     let on = g full in
-    let many : length new ≡ length slots + n = ap length e ∙ length-append slots (replicate n Nil) ∙ ap (λ k. length slots + k) (length-replicate n Nil) in
+    let grown : length new ≡ length slots + length (replicate n Nil) = ap length e ∙ length-append slots (replicate n Nil) in
+    let many : length new ≡ length slots + n = grown ∙ ap (λ k. length slots + k) (length-replicate n Nil) in
     omega (arith, on, many)
 
 pub more-slots : (slots new : List Word) (n top : ℕ) → NilFrom slots top (length slots) → new ≡ slots ++ replicate n Nil

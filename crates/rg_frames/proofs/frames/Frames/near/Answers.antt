@@ -9,8 +9,10 @@ index-requires c =
     let s = c.self.inside in
     let P : Stack → Type 0 = λ v. 0 < length v.frames in
     let some = subst P (sym c.self.view_is) c.requires in
+    let there : s.first + c.args.s < length s.slots.items =
     near-there s.rows.items _ _ _ _ _ some (omega (arith, s.rows.ok.0, s.rows.ok.1)) c.self.invariant.1.within c.self.invariant.2.order
-    (omega (arith, c.ranges.s)) c.self.invariant.3
+    (omega (arith, c.ranges.s)) c.self.invariant.3 in
+    omega (arith, there, s.slots.ok.0)
 
 pub returns : goal.returns
 returns c =

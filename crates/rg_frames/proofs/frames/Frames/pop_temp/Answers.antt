@@ -10,9 +10,12 @@ invariant_of-self c =
     c.self.inside.temps c.self.inside.marks c.self.inside.next in
     let begun = subst Begun (sym c.self.view_is) c.requires in
     let some : 0 < length c.self.inside.marks.items = omega (arith, begun.1, c.self.invariant.0.as_many) in
-    let below = mark-below v _ _ _ (grind arith) (grind arith) c.index.ensures c.if-len-index.false some c.self.invariant.0 in
-    (lies-temps v _ some (mark-left v _ _ c.pop.ensures.items below) c.self.invariant.0, c.self.invariant.1, c.self.invariant.2,
-    c.self.invariant.3)
+    let below = mark-below v _ _ _ (grind arith) (grind arith) c.index.ensures c.if-len-index.false some c.self.invariant.0 in (
+      lies-temps v _ some (mark-left v _ _ c.pop.ensures.items below) c.self.invariant.0,
+      c.self.invariant.1,
+      c.self.invariant.2,
+      c.self.invariant.3,
+    )
 
 pub returns-clause-none : goal.returns-clause-none
 returns-clause-none c =

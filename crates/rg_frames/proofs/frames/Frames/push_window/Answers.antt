@@ -11,6 +11,9 @@ invariant_of-self-2 c =
     let above = subst P (sym c.self.view_is) c.requires.above in
     let within = subst Q (sym c.self.view_is) c.requires.within in
     let new : Window = record { number = c.self.inside.next; region = c.args.region; owner = Some c.args.owner; base = c.args.base } in
-    rw (c.push_reserved.ensures.items, c.push_reserved-2.ensures.items, c.reserve_both.ensures.first, c.reserve_both.ensures.second, c.len.ensures)
-    (lies-push _ above.0 new (c.self.inside.next + 1) _ (grind arith) above.1 above.2 within c.self.invariant.0, c.self.invariant.1, c.self.invariant.2,
-    c.self.invariant.3)
+    rw (c.push_reserved.ensures.items, c.push_reserved-2.ensures.items, c.reserve_both.ensures.first, c.reserve_both.ensures.second, c.len.ensures) (
+      lies-push _ above.0 new (c.self.inside.next + 1) _ (grind arith) above.1 above.2 within c.self.invariant.0,
+      c.self.invariant.1,
+      c.self.invariant.2,
+      c.self.invariant.3,
+    )

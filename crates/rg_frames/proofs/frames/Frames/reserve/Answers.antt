@@ -21,8 +21,8 @@ invariant_of-self-2 c =
       λ full. omega (arith, c.in-Ok.ensures.room),
     )
 
-pub invariant_of-self-3 : goal.invariant_of-self-3
-invariant_of-self-3 c =
+pub invariant_of-self-in_default-reserve : goal.invariant_of-self-in_default-reserve
+invariant_of-self-in_default-reserve c =
     let b = more-slots _ _ _ _ c.self.invariant.2 c.lengthen.ensures.nil in (
       rw (b.0, c.reserve.ensures.items) (lies-slots _ _ _ _ _ _ (omega arith) c.self.invariant.0),
       rw (b.0, c.reserve.ensures.items) c.self.invariant.1,
