@@ -1,7 +1,7 @@
 //! The heap: cells and regions (docs/architecture.md, "The heap").
 
 ghost use Rattle.std.specs.Prelude.{◌≡◌, ◌<◌, ℕ, [], true, false, IfOk, OnErr, length, option_map};
-ghost use Rattle.std.specs.Prelude.{Some, Err, ◌⊎◌, ◌≤◌, ◌↔◌, ◌+◌, ◌*◌, drop, sum_by};
+ghost use Rattle.std.specs.Prelude.{Some, Err, ◌⊎◌, ◌≤◌, ◌↔◌, ◌+◌, ◌*◌, ◌^◌, drop, sum_by};
 ghost use Rattle.rg_base.specs.declared.object.Label.TheVariants.{Region, Temp};
 ghost use Rattle.rg_cells.specs.declared.cell.Body.{Body as BodyOf};
 ghost use Rattle.rg_cells.specs.Table.{IsHeld, body_at, field_at, label_at, width, with_field};
@@ -406,6 +406,16 @@ impl Heap {
         ensures { result ≡ width (body_at self.now.cells.heap slot) }
     {
         self.cells.field_count(slot)
+    }
+
+    /// That a held cell has fewer than 2^32 fields. It is called for this clause alone.
+    pub fn has_few_fields(&self, slot: usize)
+        requires { IsHeld self.now.cells.heap slot }
+        ensures { width (body_at self.now.cells.heap slot) < 2 ^ 32 }
+    {
+        // compiled by itself it becomes empty; with `inline(always)` its reads would be kept where
+        // the caller reads the same
+        let _ = self.cells.field_count(slot);
     }
 
     /// The serial of a held cell.

@@ -1,7 +1,9 @@
 -- Elements by their places: what is read at one, and what a write needs.
-use Rattle.std.proofs.Common.{◌≡◌, ◌<◌, ◌≤◌, ◌^◌, ◌∷◌, [], ℕ, ℤ, pos, negsuc, List, Option, Some, None, IfSome, IfNone, Result, Ok, Err, ok_or, length, nat_lt}
-use Rattle.std.proofs.Common.{Bool as Truth, true, false, if◌then◌else◌, slice_get, zero, suc, refl, sym, ap, subst, ◌∙◌, arith, of_z, w64, SFits}
+use Rattle.std.proofs.Common.{◌≡◌, ◌<◌, ◌≤◌, ◌^◌, ◌∷◌, [], ℕ, ℤ, pos, negsuc, List, Option, Some, None, IfSome, IfNone, Result}
+use Rattle.std.proofs.Common.{Ok, Err, ok_or, length, nat_lt, Bool as Truth, true, false, if◌then◌else◌, slice_get, zero, suc, refl, sym, ap, subst}
+use Rattle.std.proofs.Common.{◌∙◌, arith, of_z, w64, SFits}
 use Rattle.std.specs.Prelude.{option_and_then}
+use Rattle.std.proofs.lemmas.Option.{none-some}
 use Rattle.rg_base.specs.declared.object.Seen.{Seen}
 use Rattle.rg_base.specs.declared.outcome.Trap.{Trap}
 use Rattle.rg_base.specs.declared.outcome.Trap.TheVariants as trap
@@ -18,7 +20,7 @@ use Rattle.rg_heap.specs.Answers.{Reads}
 use Rattle.rg_code.specs.declared.op.Op.TheVariants as i
 use Rattle.rg_stack.specs.Effects.{element_in}
 use Rattle.rg_machine.specs.Among.{ElementIs, IsAmong, NamesPlace}
-use Rattle.rg_machine.specs.Core.{Core, Has}
+use Rattle.rg_machine.specs.Core.{Has}
 use Rattle.rg_machine.specs.Cores.{core_of}
 use Rattle.rg_machine.specs.Inner.Arrays.{place_behind}
 use Rattle.rg_machine.specs.Parts.{Parts, machine_in, val_in}
@@ -40,47 +42,64 @@ no-object p (word.Int z) x n a = let e = a.leads in cc
 no-object p (word.Bool b) x n a = let e = a.leads in cc
 no-object p (word.Slot s) x n a = n s refl
 
--- a field within the width is there
-field-some : (h : Heap) (slot k : ℕ) → k < width (body_at h slot) → field_at h slot k ≡ None → ⊥
-field-some h slot k l e = by_body (body_at h slot) l e
+-- where no field is, the place is past the width
+none-past : (h : Heap) (slot k : ℕ) → field_at h slot k ≡ None → width (body_at h slot) ≤ k
+none-past h slot k e = by_body (body_at h slot) e
   where
-    past : (ws : List Word) (k : ℕ) → k < length ws → slice_get ws k ≡ None → ⊥
-    past [] k l e = absurd (omega (arith, l))
-    past (w ∷ ws) zero l e = let no : Some w ≡ None = e in cc
-    past (w ∷ ws) (suc k) l e = past ws k (omega (arith, l)) e
+    past : (ws : List Word) (k : ℕ) → slice_get ws k ≡ None → length ws ≤ k
+    past [] k e = omega arith
+    past (w ∷ ws) zero e = let no : Some w ≡ None = e in absurd (none-some w (sym no))
+    past (w ∷ ws) (suc k) e = let l = past ws k e in omega (arith, l)
 
-    by_body : (o : Option Body) → k < width o → option_and_then (λ (b : Body). slice_get b.fields k) o ≡ None → ⊥
-    by_body None l e = absurd (omega (arith, l))
-    by_body (Some b) l e = past b.fields k l e
+    by_body : (o : Option Body) → option_and_then (λ (b : Body). slice_get b.fields k) o ≡ None → width o ≤ k
+    by_body None e = omega arith
+    by_body (Some b) e = past b.fields k e
 
-module _ (p : Parts) (r x : Word) (slot many n : ℕ) (z : ℤ) (is : r ≡ word.Slot slot) (known : Known p) (leads : Leads p.heap p.frames r)
-    (size : many ≡ width (body_at p.heap.cells.heap slot)) (few : many < 2 ^ 32) (number : z ≡ as_int (val_in p x)) (names : NamesPlace z n) where
-  of : (o : Seen) × (object_at (machine_in p).store (val_in p r) ≡ Ok o) × (many ≡ length o.fields)
-  of = object-size p r slot many is known leads size
+-- whether a place is within
+within-is : (n many : ℕ) → n < many → nat_lt n many ≡ true
+within-is n many t = grind (arith, t)
 
-  named : n < many → place_among many z ≡ Some n
-  named l = let b : nat_lt n many ≡ true = grind (arith, l) in names many few ∙ ap (λ b. if b then Some n else None) b
+past-is : (n many : ℕ) → many ≤ n → nat_lt n many ≡ false
+past-is n many t = grind (arith, t)
 
-  pub among-at : n < many → IsAmong (machine_in p) (val_in p r) (val_in p x)
-  among-at l = record {
+-- a word leads to a slot, and another names a place there
+pub record Located (p : Parts) (r x : Word) (slot n : ℕ) : Type 0 where
+  pub is : r ≡ word.Slot slot
+  pub known : Known p
+  pub leads : Leads p.heap p.frames r
+  pub few : width (body_at p.heap.cells.heap slot) < 2 ^ 32
+  pub names : NamesPlace (as_int (val_in p x)) n
+
+module _ (p : Parts) (r x : Word) (slot n : ℕ) (l : Located p r x slot n) where
+  of : (o : Seen) × (object_at (machine_in p).store (val_in p r) ≡ Ok o) × (width (body_at p.heap.cells.heap slot) ≡ length o.fields)
+  of = object-size p r slot (width (body_at p.heap.cells.heap slot)) l.is l.known l.leads refl
+
+  named : n < width (body_at p.heap.cells.heap slot) → place_among (width (body_at p.heap.cells.heap slot)) (as_int (val_in p x)) ≡ Some n
+  named t =
+      l.names (width (body_at p.heap.cells.heap slot)) l.few
+      ∙ ap (λ b. if b then Some n else None) (within-is n (width (body_at p.heap.cells.heap slot)) t)
+
+  pub among-at : n < width (body_at p.heap.cells.heap slot) → IsAmong (machine_in p) (val_in p r) (val_in p x)
+  among-at t = record {
     object = of.0;
     place = n;
     leads = of.1;
-    there = ap (λ m. ok_or (place_among m (as_int (val_in p x))) trap.Index) (sym of.2)
-        ∙ ap (λ q. ok_or q trap.Index) (ap (place_among many) (sym number) ∙ named l);
+    there = ap (λ m. ok_or (place_among m (as_int (val_in p x))) trap.Index) (sym of.2) ∙ ap (λ q. ok_or q trap.Index) (named t);
   }
 
-  pub place-at : n < many → place_behind (machine_in p).store (val_in p r) (val_in p x) ≡ Ok n
-  place-at l = sym (place-some (machine_in p).store (val_in p r) (val_in p x) many z (Some n) of number (sym (named l)) n refl)
+  pub place-at : n < width (body_at p.heap.cells.heap slot) → place_behind (machine_in p).store (val_in p r) (val_in p x) ≡ Ok n
+  place-at t =
+      sym (place-some (machine_in p).store (val_in p r) (val_in p x) (width (body_at p.heap.cells.heap slot)) (as_int (val_in p x)) (Some n) of
+      refl (sym (named t)) n refl)
 
-  pub lacks-at : many ≤ n → IsAmong (machine_in p) (val_in p r) (val_in p x) → ⊥
-  lacks-at l a =
-      let b : nat_lt n many ≡ false = grind (arith, l) in
-      let none : place_among many z ≡ None = names many few ∙ ap (λ b. if b then Some n else None) b in
+  pub lacks-at : width (body_at p.heap.cells.heap slot) ≤ n → IsAmong (machine_in p) (val_in p r) (val_in p x) → ⊥
+  lacks-at t a =
+      let none : place_among (width (body_at p.heap.cells.heap slot)) (as_int (val_in p x)) ≡ None =
+      l.names (width (body_at p.heap.cells.heap slot)) l.few
+      ∙ ap (λ b. if b then Some n else None) (past-is n (width (body_at p.heap.cells.heap slot)) t) in
       let same : a.object ≡ of.0 = ok-same a.object of.0 (sym a.leads ∙ of.1) in
       let e : ◌≡◌ {A = Result ℕ Trap} (Err trap.Index) (Ok a.place) =
       sym (ap (λ q. ok_or q trap.Index) none)
-      ∙ ap (λ y. ok_or (place_among many y) trap.Index) number
       ∙ ap (λ m. ok_or (place_among m (as_int (val_in p x))) trap.Index) (of.2 ∙ ap (λ (o : Seen). length o.fields) (sym same))
       ∙ a.there in
       cc
@@ -95,26 +114,22 @@ module _ (p : Parts) (r x : Word) (slot many n : ℕ) (z : ℤ) (is : r ≡ word
       → IfSome o (ElementIs p (val_in p r) (val_in p x))
   element-some None e given = tt
   element-some (Some w) e given =
-      let l : n < many = let k = field_within p.heap.cells.heap slot n w (sym e) in omega (arith, k, size) in
+      let t = field_within p.heap.cells.heap slot n w (sym e) in
       let R : Word → Type 0 = λ y. Reads p.heap.cells.heap y n (Ok w) in
-      let reads : Reads p.heap.cells.heap r n (Ok w) = subst R (sym is) (w, refl, sym e) in
-      let place = place-at l in
+      let reads : Reads p.heap.cells.heap r n (Ok w) = subst R (sym l.is) (w, refl, sym e) in
+      let place = place-at t in
       record {
-        among = among-at l;
+        among = among-at t;
         value = element-field (machine_in p).store (val_in p r) (val_in p x) (val_in p w) n place
-            (word-shown p r slot n (Ok w) is known leads reads);
-        leads = word-leads p r slot n (Ok w) is known leads
-            (element-given (core_of p) (val_in p r) (val_in p x) n (given (among-at l)) place) reads;
+            (word-shown p r slot n (Ok w) l.is l.known l.leads reads);
+        leads = word-leads p r slot n (Ok w) l.is l.known l.leads
+            (element-given (core_of p) (val_in p r) (val_in p x) n (given (among-at t)) place) reads;
       }
 
   pub element-lacks : (o : Option Word) → o ≡ field_at p.heap.cells.heap slot n
       → IfNone o (IsAmong (machine_in p) (val_in p r) (val_in p x) → ⊥)
   element-lacks (Some w) e = tt
-  element-lacks None e = λ a. elim (nat_lt n many) as (λ b. nat_lt n many ≡ b → ⊥) [
-    | true ↦ λ b. let l : n < many = grind (arith, b) in
-        field-some p.heap.cells.heap slot n (omega (arith, l, size)) (sym e)
-    | false ↦ λ b. let l : many ≤ n = grind (arith, b) in lacks-at l a
-  ] refl
+  element-lacks None e = lacks-at (none-past p.heap.cells.heap slot n (sym e))
 
 -- nothing is read where nothing is
 pub element-absent : (p : Parts) (r x : Val) → (IsAmong (machine_in p) r x → ⊥) → Nil ≡ element_in (machine_in p).store r x
@@ -132,7 +147,8 @@ element-absent p r x n = by (object_at (machine_in p).store r) refl
     by (Ok o) at = by_place o at (element_place o x) refl
 
 -- what is put where the instruction has what it needs is put
-pub put-there-is : (b : Truth) (p : Parts) (r x w : Word) → Has i.PutElement (record (core_of p) { stack = val_in p w ∷ val_in p x ∷ val_in p r ∷ [] })
+pub put-there-is : (b : Truth) (p : Parts) (r x w : Word)
+    → Has i.PutElement (record (core_of p) { stack = val_in p w ∷ val_in p x ∷ val_in p r ∷ [] })
     → (b ≡ false → (IsAmong (machine_in p) (val_in p r) (val_in p x) → ⊥)) → b ≡ true
 put-there-is true p r x w given lacks = refl
 put-there-is false p r x w given lacks = absurd (by (place_behind (machine_in p).store (val_in p r) (val_in p x)) refl)

@@ -1,3 +1,4 @@
 -- Slots and fields that are written.
 pub mod Slot
 pub mod Field
+pub mod Element

@@ -81,8 +81,7 @@ impl Machine {
     #[inline(always)]
     pub fn element_of(&self, r: Word, index: Word) -> Option<Word>
         requires leads { Leads self.now.heap self.now.frames r }
-        requires given {
-            IsAmong (machine_in self.now) (val_in self.now r) (val_in self.now index) →
+        requires given { IsAmong (machine_in self.now) (val_in self.now r) (val_in self.now index) →
             Has i.Element (record (core_of self.now) {
               stack = val_in self.now index ∷ val_in self.now r ∷ [];
             }) }
@@ -91,24 +90,23 @@ impl Machine {
         ensures none { IfNone result
             (IsAmong (machine_in self.now) (val_in self.now r) (val_in self.now index) → ⊥) }
     {
-        self.heap.is_forest();
+        let place = place_of(number(self, index));
         let Word::Slot(slot) = r else {
             return None;
         };
-        // no array has a place that only a negative number names
-        let _ = self.heap.size(slot);
-        let place = place_of(number(self, index));
+        self.heap.is_forest();
+        // there are fewer than 2^32 elements, so a negative number names none
+        self.heap.has_few_fields(slot);
         self.heap.element(slot, place)
     }
 
-    /// Writes a word into the element that another names, of the array to which a third leads, if it
-    /// is there; answers whether it is.
+    /// Writes a word into the element that another names, of the array to which a third leads, if
+    /// it is there; answers whether it is.
     #[inline(always)]
     pub fn put_into(&mut self, r: Word, index: Word, w: Word) -> bool
         requires object { Leads self.old.heap self.old.frames r }
         requires leads { Leads self.old.heap self.old.frames w }
-        requires given {
-            IsAmong (machine_in self.old) (val_in self.old r) (val_in self.old index) →
+        requires given { IsAmong (machine_in self.old) (val_in self.old r) (val_in self.old index) →
             Has i.PutElement (record (core_of self.old) {
               stack = val_in self.old w ∷ val_in self.old index ∷ val_in self.old r ∷ [];
             }) }
@@ -123,13 +121,13 @@ impl Machine {
             × (self.new ≡ self.old) }
         ensures high { NoneMade self.old.heap self.new.heap }
     {
-        self.heap.is_forest();
+        let place = place_of(number(self, index));
         let Word::Slot(slot) = r else {
             return false;
         };
-        // no array has a place that only a negative number names
-        let _ = self.heap.size(slot);
-        let place = place_of(number(self, index));
+        self.heap.is_forest();
+        // there are fewer than 2^32 elements, so a negative number names none
+        self.heap.has_few_fields(slot);
         if !self.heap.write_element(&self.frames, slot, place, w) {
             return false;
         }
@@ -169,6 +167,6 @@ impl Machine {
             }) }
         ensures high { NoneMade self.old.heap self.new.heap }
     {
-        let _put = self.put_into(r, index, w);
+        let _ = self.put_into(r, index, w);
     }
 }

@@ -9,7 +9,7 @@ pub write_element-requires-clause-place : goal.write_element-requires-clause-pla
 write_element-requires-clause-place c = λ l.
     let s = c.self.inside in
     let P : Parts → Type 0 = λ (p : Parts). c.args.index < width (body_at p.cells.heap c.args.slot)
-        → InActive p.cells.heap p.regions c.args.frames.now c.args.slot
-        (λ n. Stays p.cells.heap n c.args.w) ⊎ IsTemp p.cells.heap c.args.slot in
+    → InActive p.cells.heap p.regions c.args.frames.now c.args.slot
+    (λ n. Stays p.cells.heap n c.args.w) ⊎ IsTemp p.cells.heap c.args.slot in
     may_write s.cells.heap s.regions c.args.frames.now c.top-key.result c.args.slot c.args.w c.top-key.ensures
     (subst P (sym c.self.view_is) c.requires.place l)
