@@ -3,7 +3,7 @@ _reggio() {
   local word=${COMP_WORDS[COMP_CWORD]} before=${COMP_WORDS[COMP_CWORD - 1]}
   COMPREPLY=()
   case $COMP_CWORD in
-    1) mapfile -t COMPREPLY < <(compgen -W 'run slide plain check fmt code bulk' -- "$word") ;;
+    1) mapfile -t COMPREPLY < <(compgen -W 'run slide plain check fmt code pack bulk' -- "$word") ;;
     2)
       case $before in
         bulk) mapfile -t COMPREPLY < <(compgen -W '1000 10000 100000' -- "$word") ;;

@@ -60,7 +60,9 @@ fn examples(rt: &(impl Files + Print + AllocGlobal)) -> io::Result<()> {
         example(rt, program, input, output)?;
     }
     let text = told(writes(rt, "fmt", "every_form.rg", None, "every_form.fmt"));
-    println!(rt; "fmt every_form.rg: {text}")
+    println!(rt; "fmt every_form.rg: {text}")?;
+    let module = told(writes(rt, "pack", "seven.rg", None, "seven.rgm"));
+    println!(rt; "pack seven.rg: {module}")
 }
 
 /// A table of rows.

@@ -18,7 +18,7 @@ use Rattle.rg_rules.specs.Runs.{Ending, Running, Done, Stopped}
 use Rattle.rg_rules.specs.Runs as rules
 use Rattle.rg_check.specs.Laws.{SpeltHasFewNames}
 use Rattle.rg_top.specs.declared.status.Status.{Status}
-use Rattle.rg_top.specs.Commands.{Command, run, plain, fmt, check, code, bulk, Origin, in_file, generated, origin_of}
+use Rattle.rg_top.specs.Commands.{Command, run, plain, fmt, check, code, pack, bulk, Origin, in_file, generated, origin_of}
 use Rattle.rg_top.specs.Statuses.{is_refusal}
 use Rattle.rg_top.specs.Expected.{Meaning, too_long, faulty, spelt, IsStuck, SpellsTree, Means, MeansFrom, Answer, status_of}
 use Rattle.rg_top.specs.Expected.{run_answer, unless_fault, expected, ExpectsStatus}
@@ -81,6 +81,7 @@ status-any (plain file n) p q input (spelt t) = refl
 status-any (fmt file) p q input (spelt t) = refl
 status-any (check file) p q input (spelt t) = refl
 status-any (code file) p q input (spelt t) = refl
+status-any (pack file) p q input (spelt t) = refl
 status-any (bulk size) p q input (spelt t) = refl
 
 -- a command answers one status to a source, on one input
@@ -114,6 +115,7 @@ refusal-expected (plain file n) p i j (spelt t) s text r e = refusal-ran t i j n
 refusal-expected (fmt file) p i j (spelt t) s text r e = e
 refusal-expected (check file) p i j (spelt t) s text r e = e
 refusal-expected (code file) p i j (spelt t) s text r e = e
+refusal-expected (pack file) p i j (spelt t) s text r e = e
 refusal-expected (bulk size) p i j (spelt t) s text r e = e
 
 -- a refusal doesn't depend on the input

@@ -22,9 +22,9 @@ use Rattle.rg_run.proofs.Sound.{run-is-sound, stands-shown}
 use Rattle.rg_run.proofs.Run.{run-of, wrote-whole, text-part, text-split}
 use Rattle.rg_top.specs.declared.status.Status.{Status}
 use Rattle.rg_top.specs.declared.status.Status.TheVariants as status
-use Rattle.rg_top.specs.Commands.{Command, run, plain, fmt, check, code, bulk, in_file, origin_of, reads_input}
+use Rattle.rg_top.specs.Commands.{Command, run, plain, fmt, check, code, pack, bulk, in_file, origin_of, reads_input}
 use Rattle.rg_top.specs.Statuses.{is_answer, is_from_outside}
-use Rattle.rg_top.specs.Expected.{too_long, faulty, spelt, MeansFrom, status_of, accepted_text, listed_text, text_after}
+use Rattle.rg_top.specs.Expected.{too_long, faulty, spelt, MeansFrom, status_of, accepted_text, listed_text, packed_text, text_after}
 use Rattle.rg_top.specs.Expected.{line_behind, run_answer, unless_fault, ExpectsStatus}
 use Rattle.rg_top.specs.Headline.{ForInput, IfAccepted, RunStands, Answers, Untouched, StandsAfter, bulk_added, AsksAfter, CutOffAt, CutAtInput}
 use Rattle.rg_top.specs.Inner.Settled.{RanWhole, RanBeside, RanGenerated, EndsWell, StopsRun, IsFaulted, CutOff, Settles}
@@ -146,6 +146,15 @@ answers-well (code file) source left old new m still r =
       wrote = r.wrote;
       leaves = r.fresh;
     })
+answers-well (pack file) source left old new m still r =
+    for-input left _ (λ input. record {
+      meaning = spelt r.tree;
+      means = r.runs.means;
+      text = packed_text r.tree;
+      expects = rw r.runs.accepted refl;
+      wrote = r.wrote;
+      leaves = r.fresh;
+    })
 answers-well (bulk size) source left old new m still r = answers-generated size source left status.Done old new m still r
 
 answers-stops : (c : Command) (source : List ℕ) (left : Option (List ℕ)) (s : Status) (old new : Option (List ℕ)) (m : Kept) (still : Type 0) →
@@ -156,6 +165,7 @@ answers-stops (plain file n) source left s old new m still r = answers-beside fi
 answers-stops (fmt file) source left s old new m still r = absurd r
 answers-stops (check file) source left s old new m still r = absurd r
 answers-stops (code file) source left s old new m still r = absurd r
+answers-stops (pack file) source left s old new m still r = absurd r
 answers-stops (bulk size) source left s old new m still r = answers-generated size source left s old new m still r
 
 -- a source with a fault is refused
@@ -196,6 +206,14 @@ answers-refused (check file) source input f old new m still u (inr h) = record {
   leaves = u.0;
 }
 answers-refused (code file) source input f old new m still u (inr h) = record {
+  meaning = spelt h.0;
+  means = h.1;
+  text = [];
+  expects = rw h.2 refl;
+  wrote = untouched-text old new u.1;
+  leaves = u.0;
+}
+answers-refused (pack file) source input f old new m still u (inr h) = record {
   meaning = spelt h.0;
   means = h.1;
   text = [];
@@ -316,6 +334,7 @@ cut-well (plain file n) source left old new m still r = cut-beside file n source
 cut-well (fmt file) source left old new m still r = (r.tree, r.means, r.fresh, whole-part old new _ r.wrote)
 cut-well (check file) source left old new m still r = (r.tree, r.runs, r.fresh, whole-part old new _ r.wrote)
 cut-well (code file) source left old new m still r = (r.tree, r.runs, r.fresh, whole-part old new _ r.wrote)
+cut-well (pack file) source left old new m still r = (r.tree, r.runs, r.fresh, whole-part old new _ r.wrote)
 cut-well (bulk size) source left old new m still r = cut-generated size source status.Done old new m [] still r
 
 cut-stops : (c : Command) (source : List ℕ) (left : Option (List ℕ)) (s : Status) (old new : Option (List ℕ)) (m : Kept) (still : Type 0) →
@@ -326,6 +345,7 @@ cut-stops (plain file n) source left s old new m still r = cut-beside file n sou
 cut-stops (fmt file) source left s old new m still r = absurd r
 cut-stops (check file) source left s old new m still r = absurd r
 cut-stops (code file) source left s old new m still r = absurd r
+cut-stops (pack file) source left s old new m still r = absurd r
 cut-stops (bulk size) source left s old new m still r = cut-generated size source s old new m [] still r
 
 -- one of the steps asks
@@ -370,6 +390,7 @@ cut-input (plain file n) source left old new m still h =
 cut-input (fmt file) source left old new m still h = absurd h.2
 cut-input (check file) source left old new m still h = absurd h.2
 cut-input (code file) source left old new m still h = absurd h.2
+cut-input (pack file) source left old new m still h = absurd h.2
 cut-input (bulk size) source left old new m still h = absurd h.2
 
 cut-at : (c : Command) (source : List ℕ) (left old new : Option (List ℕ)) (m : Kept) (still : Type 0) → CutOff c source left old new m still →
@@ -379,6 +400,7 @@ cut-at (plain file n) source left old new m still h = h
 cut-at (fmt file) source left old new m still h = for-input left _ (λ input. h)
 cut-at (check file) source left old new m still h = for-input left _ (λ input. h)
 cut-at (code file) source left old new m still h = for-input left _ (λ input. h)
+cut-at (pack file) source left old new m still h = for-input left _ (λ input. h)
 cut-at (bulk size) source left old new m still h = for-input left _ (λ input. h)
 
 untouched-or : (c : Command) (source : List ℕ) (left old new : Option (List ℕ)) (m : Kept) (still : Type 0) →
@@ -436,6 +458,7 @@ module _ (source : List ℕ) (left old new : Option (List ℕ)) (m : Kept) (stil
   untouched-still (fmt file) (inr h) e = inr h
   untouched-still (check file) (inr h) e = inr h
   untouched-still (code file) (inr h) e = inr h
+  untouched-still (pack file) (inr h) e = inr h
   untouched-still (bulk size) (inr h) e = inr h
 
   well-still : (c : Command) → EndsWell c source left old new m (Unit {0}) → reads_input c ≡ false → EndsWell c source left old new m still
@@ -444,6 +467,7 @@ module _ (source : List ℕ) (left old new : Option (List ℕ)) (m : Kept) (stil
   well-still (fmt file) h e = h
   well-still (check file) h e = h
   well-still (code file) h e = h
+  well-still (pack file) h e = h
   well-still (bulk size) h e = h
 
   stops-still : (c : Command) (s : Status) → StopsRun c source left s old new m (Unit {0}) → reads_input c ≡ false →
@@ -453,6 +477,7 @@ module _ (source : List ℕ) (left old new : Option (List ℕ)) (m : Kept) (stil
   stops-still (fmt file) s h e = absurd h
   stops-still (check file) s h e = absurd h
   stops-still (code file) s h e = absurd h
+  stops-still (pack file) s h e = absurd h
   stops-still (bulk size) s h e = h
 
   pub settles-still : (c : Command) (s : Status) → reads_input c ≡ false → Settles c source left s old new m (Unit {0}) →

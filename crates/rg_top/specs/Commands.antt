@@ -26,6 +26,8 @@ pub data Command : Type 0 where
   check : (file : List ℕ) → Command
   -- code FILE
   code : (file : List ℕ) → Command
+  -- pack FILE
+  pack : (file : List ℕ) → Command
   -- bulk N
   bulk : (size : ℕ) → Command
 
@@ -43,6 +45,7 @@ origin_of (plain file steps) = in_file file
 origin_of (fmt file) = in_file file
 origin_of (check file) = in_file file
 origin_of (code file) = in_file file
+origin_of (pack file) = in_file file
 origin_of (bulk size) = generated size
 
 -- the most steps that a command asks for; `bulk` asks for as many as there can be, and one that runs nothing for none
@@ -52,6 +55,7 @@ steps_of (plain file steps) = steps
 steps_of (fmt file) = 0
 steps_of (check file) = 0
 steps_of (code file) = 0
+steps_of (pack file) = 0
 steps_of (bulk size) = MOST_STEPS
 
 -- the number to which a command tunes the pacers: how often they are asked before they say yes, 0 for never; `bulk` has them say yes never
@@ -61,6 +65,7 @@ every_of (plain file steps) = 0
 every_of (fmt file) = 0
 every_of (check file) = 0
 every_of (code file) = 0
+every_of (pack file) = 0
 every_of (bulk size) = 0
 
 -- whether a command runs a program on the machine that is handed in
@@ -70,6 +75,7 @@ runs_on (plain file steps) = false
 runs_on (fmt file) = false
 runs_on (check file) = false
 runs_on (code file) = false
+runs_on (pack file) = false
 runs_on (bulk size) = true
 
 -- whether it is `slide`
@@ -79,6 +85,7 @@ is_slide (plain file steps) = false
 is_slide (fmt file) = false
 is_slide (check file) = false
 is_slide (code file) = false
+is_slide (pack file) = false
 is_slide (bulk size) = false
 
 -- whether a command reports
@@ -88,6 +95,7 @@ reports (plain file steps) = false
 reports (fmt file) = false
 reports (check file) = false
 reports (code file) = false
+reports (pack file) = false
 reports (bulk size) = false
 
 -- whether what the words give does
@@ -102,6 +110,7 @@ reads_input (plain file steps) = true
 reads_input (fmt file) = false
 reads_input (check file) = false
 reads_input (code file) = false
+reads_input (pack file) = false
 reads_input (bulk size) = false
 
 -- whether what the words give may
@@ -116,6 +125,7 @@ opens_file (plain file steps) = true
 opens_file (fmt file) = true
 opens_file (check file) = true
 opens_file (code file) = true
+opens_file (pack file) = true
 opens_file (bulk size) = false
 
 -- whether what the words give opens one
@@ -197,7 +207,8 @@ named name file options =
     if bytes_eq name (codes "plain") then option_map (plain file) (steps_in options) else
     if bytes_eq name (codes "fmt") then alone (fmt file) options else
     if bytes_eq name (codes "check") then alone (check file) options else
-    if bytes_eq name (codes "code") then alone (code file) options else None
+    if bytes_eq name (codes "code") then alone (code file) options else
+    if bytes_eq name (codes "pack") then alone (pack file) options else None
 
 -- a command on a size alone
 abbrev pub sized : (number : List ℕ) → List (List ℕ) → Option Command

@@ -17,10 +17,12 @@ use Rattle.rg_rules.specs.Runs.{Ending, Running, Done, Stopped, Ran}
 use Rattle.rg_rules.specs.Runs as rules
 use Rattle.rg_code.specs.Lowering.{lowered}
 use Rattle.rg_code.specs.Listing.{listing}
+use Rattle.rg_module.specs.Spelling.{spelling}
+use Rattle.rg_build.specs.ModuleOf.{module_of}
 use Rattle.rg_make.specs.Generated as make
 use Rattle.rg_top.specs.declared.status.Status.{Status}
 use Rattle.rg_top.specs.declared.status.Status.TheVariants as status
-use Rattle.rg_top.specs.Commands.{Command, run, plain, fmt, check, code, bulk, Origin, in_file, generated, origin_of}
+use Rattle.rg_top.specs.Commands.{Command, run, plain, fmt, check, code, pack, bulk, Origin, in_file, generated, origin_of}
 
 -- what a source can be
 pub data Meaning : Type 0 where
@@ -92,6 +94,10 @@ accepted_text = codes "accepted" ++ 10 ∷ []
 abbrev pub listed_text : Tree → List ℕ
 listed_text t = listing t (lowered t)
 
+-- what `pack` writes of an accepted program: the bytes of its module
+abbrev pub packed_text : Tree → List ℕ
+packed_text t = spelling (module_of t)
+
 -- the line of `bulk` is written behind a run that is done
 abbrev pub line_behind : (size : ℕ) → EndNumbers → Ending → List ℕ
 line_behind size numbers Running = []
@@ -115,6 +121,7 @@ expected (plain file n) numbers input (spelt t) = unless_fault (first_fault t) (
 expected (fmt file) numbers input (spelt t) = record { status = status.Done; text = canon t }
 expected (check file) numbers input (spelt t) = unless_fault (first_fault t) (record { status = status.Done; text = accepted_text })
 expected (code file) numbers input (spelt t) = unless_fault (first_fault t) (record { status = status.Done; text = listed_text t })
+expected (pack file) numbers input (spelt t) = unless_fault (first_fault t) (record { status = status.Done; text = packed_text t })
 expected (bulk size) numbers input (spelt t) = bulk_answer size numbers t [] MOST_STEPS
 
 -- the command answers that to the source, on the input, where the machine has those numbers

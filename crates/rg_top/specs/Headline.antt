@@ -22,9 +22,10 @@ use Rattle.rg_run.specs.Reports.{event_lines, AreCutLines}
 use Rattle.rg_run.specs.Sound.{IsSound, Stands, NeverAsks}
 use Rattle.rg_top.specs.declared.status.Status.{Status}
 use Rattle.rg_top.specs.declared.status.Status.TheVariants as status
-use Rattle.rg_top.specs.Commands.{Command, run, plain, fmt, check, code, bulk, command, Origin, in_file, generated, origin_of, steps_of}
+use Rattle.rg_top.specs.Commands.{Command, run, plain, fmt, check, code, pack, bulk, command, Origin, in_file, generated, origin_of, steps_of}
 use Rattle.rg_top.specs.Statuses.{status_text, is_from_outside}
-use Rattle.rg_top.specs.Expected.{Meaning, too_long, faulty, spelt, HasSource, MeansFrom, expected, accepted_text, listed_text, text_after}
+use Rattle.rg_top.specs.Expected.{Meaning, too_long, faulty, spelt, HasSource, MeansFrom, expected, accepted_text, listed_text}
+use Rattle.rg_top.specs.Expected.{packed_text, text_after}
 use Rattle.rg_top.specs.Expected.{line_behind, ExpectsStatus}
 
 -- the input's source has these bytes left, where it tells that
@@ -63,6 +64,7 @@ Leaves (plain file n) input (spelt t) m still =
 Leaves (fmt file) input (spelt t) m still = IsFresh m × ParsesBack t
 Leaves (check file) input (spelt t) m still = IsFresh m
 Leaves (code file) input (spelt t) m still = IsFresh m
+Leaves (pack file) input (spelt t) m still = IsFresh m
 Leaves (bulk size) input (spelt t) m still = RunStands t [] MOST_STEPS m
 
 -- A command has answered this status to one source and one input: the source means something, of which this status and this
@@ -111,6 +113,7 @@ CutOffAt (fmt file) source input m old new still =
     (t : Tree) × MeansFrom (in_file file) source (spelt t) × IsFresh m × AppendsPart old new (canon t)
 CutOffAt (check file) source input m old new still = (t : Tree) × Runs (in_file file) source t × IsFresh m × AppendsPart old new accepted_text
 CutOffAt (code file) source input m old new still = (t : Tree) × Runs (in_file file) source t × IsFresh m × AppendsPart old new (listed_text t)
+CutOffAt (pack file) source input m old new still = (t : Tree) × Runs (in_file file) source t × IsFresh m × AppendsPart old new (packed_text t)
 CutOffAt (bulk size) source input m old new still =
     (t : Tables) × Runs (generated size) source (program_of t) × StandsAfter t [] MOST_STEPS m.steps m (bulk_added size t m.steps m) old new
 
@@ -131,6 +134,7 @@ CutAtInput (plain file n) source input m old new =
 CutAtInput (fmt file) source input m old new = ⊥
 CutAtInput (check file) source input m old new = ⊥
 CutAtInput (code file) source input m old new = ⊥
+CutAtInput (pack file) source input m old new = ⊥
 CutAtInput (bulk size) source input m old new = ⊥
 
 -- the steps that the words ask for

@@ -21,7 +21,7 @@ ghost use Rattle.rg_run.specs.Machine.{IsFresh, Kept, numbers_of};
 ghost use Rattle.rg_rules.specs.Acceptance.{Accepted as IsAccepted};
 ghost use Rattle.rg_rules.specs.Names.{FewNames};
 ghost use Rattle.rg_top.specs.Commands.{Command, command, texts, run, plain, fmt, check, code};
-ghost use Rattle.rg_top.specs.Commands.{bulk, Origin, in_file, generated, origin_of, steps_of};
+ghost use Rattle.rg_top.specs.Commands.{pack, bulk, Origin, in_file, generated, origin_of, steps_of};
 ghost use Rattle.rg_top.specs.Commands.{opens_file, may_open, reads_input, may_read, every_of};
 ghost use Rattle.rg_top.specs.Commands.{runs_on, is_slide, reports, may_report};
 ghost use Rattle.rg_top.specs.Inner.Requests.{command_of, AsksWithin};
@@ -45,6 +45,7 @@ use crate::setting::{NoInput, Setting};
 use crate::status::Status;
 use crate::words::{self, Request, RunOptions};
 use rg_base::{Ended, Fault, MOST_STEPS, SOURCE_BYTES, Stop};
+use rg_build::packed;
 use rg_check::{Accepted, check, spelt_has_few_names};
 use rg_code::{CodeList, listing};
 use rg_input::Numbers;
@@ -213,6 +214,42 @@ fn list_program<O: Sink>(alloc: Global, program: Program, out: &mut O) -> Status
     }
 }
 
+/// Gives the bytes of an accepted program's module to the output.
+fn pack_accepted<O: Sink>(alloc: Global, accepted: &Accepted, out: &mut O) -> Status
+    ensures settles { (file source : List ℕ) (left : Option (List ℕ)) (m : Kept) →
+        Runs (in_file file) source (program_of accepted.now.program) → IsFresh m →
+        Settles (pack file) source left result
+        (O.taken out.old) (O.taken out.new) m (Unit {0}) }
+    ensures caused { CausedByOutput result (O.faults out.old) (O.faults out.new) }
+{
+    let Ok(code) = lower(alloc, accepted) else {
+        return Status::Memory;
+    };
+    match packed(alloc, accepted, &code) {
+        Err(_) => Status::Memory,
+        Ok(bytes) => match put_all(out, bytes.bytes()) {
+            Ok(()) => Status::Done,
+            Err(_) => Status::OutputFault,
+        },
+    }
+}
+
+/// Gives the bytes of a program's module to the output, if it is accepted.
+fn pack_program<O: Sink>(alloc: Global, program: Program, out: &mut O) -> Status
+    requires { FewNames (program_of program) }
+    ensures settles { (file source : List ℕ) (left : Option (List ℕ)) (m : Kept) →
+        Means source (spelt (program_of program)) → IsFresh m →
+        Settles (pack file) source left result
+        (O.taken out.old) (O.taken out.new) m (Unit {0}) }
+    ensures caused { CausedByOutput result (O.faults out.old) (O.faults out.new) }
+{
+    match check(alloc, program) {
+        Err(Stop::Fault(fault)) => Status::Refused(fault),
+        Err(Stop::Memory) => Status::Memory,
+        Ok(accepted) => pack_accepted(alloc, &accepted, out),
+    }
+}
+
 /// Gives the canonical text of a program to the output.
 fn format_program<O: Sink>(alloc: Global, program: &Program, out: &mut O) -> Status
     ensures settles { (file source : List ℕ) (left : Option (List ℕ)) (m : Kept) →
@@ -294,9 +331,8 @@ fn program_from<F: Files>(
 {
     match request {
         Request::Run { file, .. } | Request::Plain { file, .. } => program_in(alloc, file, files),
-        Request::Format { file } | Request::Check { file } | Request::Code { file } => {
-            program_in(alloc, file, files)
-        }
+        Request::Format { file } | Request::Check { file } => program_in(alloc, file, files),
+        Request::Code { file } | Request::Pack { file } => program_in(alloc, file, files),
         Request::Bulk { size } => program_of_size(alloc, size),
     }
 }
@@ -518,6 +554,7 @@ impl<O: Sink, R: Sink> Setting<'_, O, R> {
             Request::Format { .. } => format_program(alloc, &program, self.out),
             Request::Check { .. } => check_program(alloc, program, self.out),
             Request::Code { .. } => list_program(alloc, program, self.out),
+            Request::Pack { .. } => pack_program(alloc, program, self.out),
             Request::Bulk { size } => self.bulk_program(program, size, count, trace),
         }
     }
@@ -569,7 +606,8 @@ fn steps_of(request: Request<'_>) -> u64
     match request {
         Request::Run { options, .. } => options.steps,
         Request::Plain { steps, .. } => steps,
-        Request::Format { .. } | Request::Check { .. } | Request::Code { .. } => 0,
+        Request::Format { .. } | Request::Check { .. } => 0,
+        Request::Code { .. } | Request::Pack { .. } => 0,
         Request::Bulk { .. } => MOST_STEPS,
     }
 }
@@ -581,7 +619,7 @@ fn reports(request: Request<'_>) -> bool
     match request {
         Request::Run { options, .. } => options.report,
         Request::Plain { .. } | Request::Format { .. } | Request::Check { .. } => false,
-        Request::Code { .. } | Request::Bulk { .. } => false,
+        Request::Code { .. } | Request::Pack { .. } | Request::Bulk { .. } => false,
     }
 }
 

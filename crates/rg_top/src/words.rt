@@ -42,6 +42,8 @@ pub(crate) enum Request<'a> {
     Check { file: &'a str },
     /// `code FILE`
     Code { file: &'a str },
+    /// `pack FILE`
+    Pack { file: &'a str },
     /// `bulk N`
     Bulk { size: u32 },
 }
@@ -265,6 +267,9 @@ fn named<'a>(name: &str, file: &'a str, options: &[&str]) -> Option<Request<'a>>
     }
     if name == "code" {
         return Some(Request::Code { file });
+    }
+    if name == "pack" {
+        return Some(Request::Pack { file });
     }
     None
 }

@@ -3,7 +3,7 @@ use Rattle.std.specs.Prelude.{◌≤◌, ⊤}
 use Rattle.rg_make.specs.declared.whole.TheConstants.{MOST_SIZE}
 use Rattle.rg_top.specs.declared.words.Request.{Request}
 use Rattle.rg_top.specs.declared.words.Request.TheVariants as request
-use Rattle.rg_top.specs.Commands.{Command, run, plain, fmt, check, code, bulk, Origin, in_file, generated, origin_of}
+use Rattle.rg_top.specs.Commands.{Command, run, plain, fmt, check, code, pack, bulk, Origin, in_file, generated, origin_of}
 
 -- the command that is asked for
 abbrev pub command_of : Request → Command
@@ -12,6 +12,7 @@ command_of (request.Plain file steps) = plain file.now steps
 command_of (request.Format file) = fmt file.now
 command_of (request.Check file) = check file.now
 command_of (request.Code file) = code file.now
+command_of (request.Pack file) = pack file.now
 command_of (request.Bulk size) = bulk size
 
 -- a size is within its limit

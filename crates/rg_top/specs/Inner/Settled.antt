@@ -23,10 +23,10 @@ use Rattle.rg_run.specs.Sound.{Stands, NeverAsks}
 use Rattle.rg_top.specs.Asked.{Unasked, RunAsks, input_for}
 use Rattle.rg_top.specs.declared.status.Status.{Status}
 use Rattle.rg_top.specs.declared.status.Status.TheVariants as status
-use Rattle.rg_top.specs.Commands.{Command, run, plain, fmt, check, code, bulk, Origin, in_file, generated, origin_of, every_of, runs_on, is_slide}
+use Rattle.rg_top.specs.Commands.{Command, run, plain, fmt, check, code, pack, bulk, Origin, in_file, generated, origin_of, every_of, runs_on, is_slide}
 use Rattle.rg_top.specs.Statuses.{status_text}
 use Rattle.rg_top.specs.Expected.{too_long, faulty, spelt, HasSource, MeansFrom, Means, status_of}
-use Rattle.rg_top.specs.Expected.{accepted_text, listed_text, text_after, line_behind}
+use Rattle.rg_top.specs.Expected.{accepted_text, listed_text, packed_text, text_after, line_behind}
 use Rattle.rg_top.specs.Headline.{HasInput, ForInput, Runs, Untouched, StandsAfter, AsksAfter, CutOffAt, CutAtInput}
 
 -- the status of a run
@@ -135,6 +135,13 @@ pub record Listed (file source : List ℕ) (old new : Option (List ℕ)) (m : Ke
   pub wrote : Appends old new (listed_text tree)
   pub fresh : IsFresh m
 
+-- the tree that the source spells is accepted, and the bytes of its module were written
+pub record Packed (file source : List ℕ) (old new : Option (List ℕ)) (m : Kept) : Type 0 where
+  pub tree : Tree
+  pub runs : Runs (in_file file) source tree
+  pub wrote : Appends old new (packed_text tree)
+  pub fresh : IsFresh m
+
 -- a command that came to its end
 abbrev pub EndsWell : Command → (source : List ℕ) → (left old new : Option (List ℕ)) → Kept → (still : Type 0) → Type 0
 EndsWell (run slides file n every report) source left old new m still = RanWhole (in_file file) n source left status.Done old new m still
@@ -142,6 +149,7 @@ EndsWell (plain file n) source left old new m still = RanBeside file n source le
 EndsWell (fmt file) source left old new m still = Formatted source old new m
 EndsWell (check file) source left old new m still = Passed file source old new m
 EndsWell (code file) source left old new m still = Listed file source old new m
+EndsWell (pack file) source left old new m still = Packed file source old new m
 EndsWell (bulk size) source left old new m still = RanGenerated size source status.Done old new m
 
 -- a run that didn't
@@ -151,6 +159,7 @@ StopsRun (plain file n) source left s old new m still = RanBeside file n source 
 StopsRun (fmt file) source left s old new m still = ⊥
 StopsRun (check file) source left s old new m still = ⊥
 StopsRun (code file) source left s old new m still = ⊥
+StopsRun (pack file) source left s old new m still = ⊥
 StopsRun (bulk size) source left s old new m still = RanGenerated size source s old new m
 
 -- the tree that the source spells has that first fault
@@ -164,6 +173,7 @@ IsFaulted (plain file n) source f = HasFault source f
 IsFaulted (fmt file) source f = ⊥
 IsFaulted (check file) source f = HasFault source f
 IsFaulted (code file) source f = HasFault source f
+IsFaulted (pack file) source f = HasFault source f
 IsFaulted (bulk size) source f = ⊥
 
 -- a command that was cut off by the output or for want of memory; one that reads no input has none
@@ -174,6 +184,7 @@ CutOff (plain file n) source left old new m still = ForInput left (λ input. Cut
 CutOff (fmt file) source left old new m still = CutOffAt (fmt file) source [] m old new still
 CutOff (check file) source left old new m still = CutOffAt (check file) source [] m old new still
 CutOff (code file) source left old new m still = CutOffAt (code file) source [] m old new still
+CutOff (pack file) source left old new m still = CutOffAt (pack file) source [] m old new still
 CutOff (bulk size) source left old new m still = CutOffAt (bulk size) source [] m old new still
 
 -- what was answered to a source

@@ -1,7 +1,7 @@
 use Rattle.std.proofs.Common.{ℕ, inl, refl}
 use Rattle.rg_run.specs.Machine.{Kept, IsFresh}
 use Rattle.rg_top.specs.Asked.{Unasked}
-use Rattle.rg_top.specs.Commands.{fmt, check, code, bulk}
+use Rattle.rg_top.specs.Commands.{fmt, check, code, pack, bulk}
 use Rattle.rg_top.proofs.Settled.{settles-still}
 use Rattle.rg_top.proofs.Answer.{caused-unread}
 use Rattle.rg_top.proofs.Asked.{asked-generated, yeses-fresh}
@@ -51,6 +51,15 @@ returns-in-Code-clause-settles g c = λ source means. (
   inl (unasked _ _ _ c.requires.unused.fresh),
 )
 
+pub returns-in-Pack-clause-settles : goal.returns-in-Pack-clause-settles
+returns-in-Pack-clause-settles g c = λ source means. (
+  rw c.in-Pack.is
+      (settles-still _ _ _ _ c.args.self.now.machine.now _ refl (pack c.in-Pack.file.now) _ refl
+      (c.pack_program.ensures.settles c.in-Pack.file.now source (g.I.Source.left c.args.input.now) c.args.self.now.machine.now
+      (rw c.in-Pack.is at means) c.requires.unused.fresh)),
+  inl (unasked _ _ _ c.requires.unused.fresh),
+)
+
 pub returns-in-Bulk-clause-settles : goal.returns-in-Bulk-clause-settles
 returns-in-Bulk-clause-settles g c = λ source means. (
   rw c.in-Bulk.is
@@ -81,3 +90,6 @@ returns-in-Check-clause-yeses g c = yeses-fresh _ _ _ _ _ c.requires.unused.fres
 
 pub returns-in-Code-clause-yeses : goal.returns-in-Code-clause-yeses
 returns-in-Code-clause-yeses g c = yeses-fresh _ _ _ _ _ c.requires.unused.fresh refl refl
+
+pub returns-in-Pack-clause-yeses : goal.returns-in-Pack-clause-yeses
+returns-in-Pack-clause-yeses g c = yeses-fresh _ _ _ _ _ c.requires.unused.fresh refl refl
