@@ -2,3 +2,4 @@
 pub mod Maps
 pub mod ModuleOf
 pub mod Laws
+pub mod Inner
