@@ -1,9 +1,10 @@
 -- What contracts see of a plan: cowns, and behaviours over them (docs/architecture.md, "Plans").
 use Rattle.std.specs.Prelude.{◌≡◌, ℕ, ◌==◌, Bool as Truth, ⊤, List, [], Result, Ok, Err}
 use Rattle.std.specs.List.{list_any}
+use Rattle.rg_base.specs.declared.fault.Code.TheVariants.{Plan}
+use Rattle.rg_base.specs.declared.fault.Stop.{Stop}
+use Rattle.rg_base.specs.declared.fault.Stop.TheVariants.{Fault, Memory}
 use Rattle.rg_plan.specs.declared.cown.Cown.{Cown}
-use Rattle.rg_plan.specs.declared.stop.PlanStop.{PlanStop}
-use Rattle.rg_plan.specs.declared.stop.PlanStop.TheVariants.{Bad, Memory}
 
 -- a behaviour: a method of a class, by its number among all methods of the program, as the plan names it, on the cowns of these numbers
 pub record Turn : Type 0 where
@@ -29,12 +30,12 @@ among ns n = list_any (λ m. m == n) ns
 abbrev pub Read : Type 0 → Type 0
 Read A = Result A ℕ
 
--- a bad line comes only where it is the first one; want of memory says nothing
-abbrev pub FailsAs : {A : Type 0} → Read A → PlanStop → Type 0
-FailsAs read (Bad line) = read ≡ Err line
+-- a fault is `E93 plan`, at the first line that breaks a rule; want of memory says nothing
+abbrev pub FailsAs : {A : Type 0} → Read A → Stop → Type 0
+FailsAs read (Fault f) = (read ≡ Err f.line) × (f.code ≡ Plan)
 FailsAs read Memory = ⊤
 
 -- an outcome against what was to be read
-abbrev pub ReadAs : {A B : Type 0} → (B → A) → Read A → Result B PlanStop → Type 0
+abbrev pub ReadAs : {A B : Type 0} → (B → A) → Read A → Result B Stop → Type 0
 ReadAs value read (Ok b) = read ≡ Ok (value b)
 ReadAs value read (Err stop) = FailsAs read stop

@@ -1,7 +1,8 @@
-//! Plans of cowns and behaviours (docs/architecture.md, "Plans"). `read_plan` reads one: it answers
-//! the plan that the bytes say for a program, else the first line that breaks a rule, or want of
-//! memory (its clause is `ReadAs` with `plan_of` of `specs/Rules`). A `Plan` holds its cowns and its
-//! behaviours in the order of their lines.
+//! Plans of cowns and behaviours (docs/architecture.md, "Plans"). `plan` reads one: it answers the
+//! plan that the bytes say for an accepted program, else `E93 plan` at the first line that breaks a
+//! rule, or want of memory (its clause is `ReadAs` with `plan_of` of `specs/Rules`). A `Plan` holds
+//! its cowns and its behaviours in the order of their lines; what holds of each that is read is a
+//! law (`plans_are_good`).
 #![tactic(auto)]
 
 mod behaviour;
@@ -17,6 +18,7 @@ mod planned;
 mod reading;
 mod stop;
 mod targets;
+mod whole;
 mod words;
 
 pub use behaviour::Behaviour;
@@ -25,5 +27,4 @@ pub use file_name::FileName;
 pub use laws::plans_are_good;
 pub use limits::{BEHAVIOURS, COWNS, NUMBER_DIGITS};
 pub use planned::Plan;
-pub use reading::read_plan;
-pub use stop::PlanStop;
+pub use whole::plan;

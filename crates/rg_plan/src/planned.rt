@@ -11,8 +11,9 @@ use crate::cown::Cown;
 use crate::limits::{BEHAVIOURS, COWNS};
 use crate::lines::{cown_line, load_line, when_line};
 use crate::pieces::Pieces;
-use crate::stop::PlanStop;
+use crate::stop::bad;
 use crate::words::is;
+use rg_base::Stop;
 use rg_names::Book;
 use std::alloc::Global;
 use std::marker::Model;
@@ -85,61 +86,61 @@ impl Plan {
         book: &Book<'_>,
         line: u64,
         text: &[u8],
-    ) -> Result<(), PlanStop>
+    ) -> Result<(), Stop>
         ensures { ReadAs (λ u. self.new) (rules.with_line (classes_of book.now.program) line
             self.old (pieces 32 text.now)) result }
     {
         let mut words = Pieces::of(text, b' ');
         let Some(first) = words.next() else {
-            return Err(PlanStop::Bad { line });
+            return Err(bad(line));
         };
         if is(first, b"cown") {
             return self.add_cown(line, cown_line(book, line, words));
         }
         if is(first, b"load") {
             let Ok(cown) = load_line(alloc, book, line, words) else {
-                return Err(PlanStop::Memory);
+                return Err(Stop::Memory);
             };
             return self.add_cown(line, cown);
         }
         if is(first, b"when") {
             let Ok(behaviour) = when_line(alloc, book, self.cowns.as_slice(), words) else {
-                return Err(PlanStop::Memory);
+                return Err(Stop::Memory);
             };
             return self.add_behaviour(line, behaviour);
         }
-        Err(PlanStop::Bad { line })
+        Err(bad(line))
     }
 
     // Adds a cown, if a line says one.
-    fn add_cown(&mut self, line: u64, cown: Option<Cown>) -> Result<(), PlanStop>
+    fn add_cown(&mut self, line: u64, cown: Option<Cown>) -> Result<(), Stop>
         ensures { ReadAs (λ u. self.new) (rules.with_cown line self.old cown) result }
     {
         let Some(cown) = cown else {
-            return Err(PlanStop::Bad { line });
+            return Err(bad(line));
         };
         if self.cowns.len() >= COWNS {
-            return Err(PlanStop::Bad { line });
+            return Err(bad(line));
         }
         match self.cowns.push(cown) {
             Ok(()) => Ok(()),
-            Err(_) => Err(PlanStop::Memory),
+            Err(_) => Err(Stop::Memory),
         }
     }
 
     // Adds a behaviour, if a line says one.
-    fn add_behaviour(&mut self, line: u64, behaviour: Option<Behaviour>) -> Result<(), PlanStop>
+    fn add_behaviour(&mut self, line: u64, behaviour: Option<Behaviour>) -> Result<(), Stop>
         ensures { ReadAs (λ u. self.new) (rules.with_turn line self.old behaviour) result }
     {
         let Some(behaviour) = behaviour else {
-            return Err(PlanStop::Bad { line });
+            return Err(bad(line));
         };
         if self.behaviours.len() >= BEHAVIOURS {
-            return Err(PlanStop::Bad { line });
+            return Err(bad(line));
         }
         match self.behaviours.push(behaviour) {
             Ok(()) => Ok(()),
-            Err(_) => Err(PlanStop::Memory),
+            Err(_) => Err(Stop::Memory),
         }
     }
 }

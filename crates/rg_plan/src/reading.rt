@@ -7,17 +7,17 @@ ghost use Rattle.rg_plan.specs.Rules as rules;
 
 use crate::pieces::Pieces;
 use crate::planned::Plan;
-use crate::stop::PlanStop;
-use rg_base::Manager;
+use crate::stop::bad;
+use rg_base::{Manager, Stop};
 use rg_names::Book;
 use std::alloc::Global;
 
-/// The plan that the bytes say for a program.
-pub fn read_plan(alloc: Global, bytes: &[u8], book: &Book<'_>) -> Result<Plan, PlanStop>
+/// The plan that the bytes say for a program with its class table.
+pub(crate) fn read_plan(alloc: Global, bytes: &[u8], book: &Book<'_>) -> Result<Plan, Stop>
     ensures { ReadAs (λ p. p) (rules.plan_of (program_of book.now.program) bytes.now) result }
 {
     if !has_bare_main(book) {
-        return Err(PlanStop::Bad { line: 0 });
+        return Err(bad(0));
     }
     let mut plan = Plan::new(alloc);
     let mut lines = Pieces::of(bytes, b'\n');
@@ -27,7 +27,7 @@ pub fn read_plan(alloc: Global, bytes: &[u8], book: &Book<'_>) -> Result<Plan, P
             if text.is_empty() {
                 return Ok(plan);
             }
-            return Err(PlanStop::Bad { line });
+            return Err(bad(line));
         }
         plan.add_line(alloc, book, line, text)?;
         line += 1;

@@ -1,10 +1,17 @@
-//! What stops the reading of a plan (docs/architecture.md, "Plans").
+//! The fault of a plan (docs/architecture.md, "Plans").
 
-/// Why there is no plan.
-#[derive(Clone, Copy, Debug, PartialEq, Eq)]
-pub enum PlanStop {
-    /// the first line that breaks a rule, counted from 1; 0 where the program has another main
-    Bad { line: u64 },
-    /// no memory was found
-    Memory,
+ghost use Rattle.std.specs.Prelude.{◌≡◌};
+ghost use Rattle.rg_base.specs.declared.fault.Code.TheVariants.{Plan};
+ghost use Rattle.rg_base.specs.declared.fault.Stop.TheVariants.{Fault as Stopped};
+
+use rg_base::{Code, Fault, Stop};
+
+/// `E93 plan` at a line.
+pub(crate) fn bad(line: u64) -> Stop
+    ensures { result ≡ Stopped (record { code = Plan; line = line }) }
+{
+    Stop::Fault(Fault {
+        code: Code::Plan,
+        line,
+    })
 }

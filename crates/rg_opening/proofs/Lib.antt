@@ -1,0 +1,2 @@
+-- Examples of what stands in specs/.
+mod Examples

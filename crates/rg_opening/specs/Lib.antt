@@ -1,0 +1,3 @@
+-- The state in which a behaviour begins (docs/architecture.md, "How a behaviour begins").
+pub mod Opening
+pub mod Beginning

@@ -1,0 +1,9 @@
+-- Lemmas on schedules (docs/architecture.md, "Schedules").
+mod Lists
+mod Commutes
+mod Worlds
+mod Order
+mod Alike
+mod Rest
+mod Named
+mod Examples

@@ -1,0 +1,8 @@
+-- The definitions that the clauses of rg_sched name (docs/architecture.md, "Schedules").
+pub mod Numbers
+pub mod Contents
+pub mod Behaviours
+pub mod Settings
+pub mod Atomic
+pub mod Events
+pub mod Laws
