@@ -110,7 +110,11 @@ class_heads-unlined cs c (k ∷ ks) =
 module_of-unlined : (t : Tree) → module_of (unlined t) ≡ module_of t
 module_of-unlined t =
     let f : List Shape → List Head → Code → List (List Ty) → Parts = λ shapes heads code maps. record {
-      manager = t.manager; classes = shapes; methods = heads; code = code; maps = laid code.ops maps;
+      manager = t.manager;
+      classes = shapes;
+      methods = heads;
+      code = code;
+      maps = laid code.ops maps;
     } in
     ap (λ shapes. f shapes (heads_of (classes_unlined t.classes)) (lowered (unlined t)) (maps_of (unlined t))) (shapes_by t.classes t.classes)
     ∙ (ap (λ heads. f (shapes_of t.classes) heads (lowered (unlined t)) (maps_of (unlined t))) (class_heads-unlined t.classes 0 t.classes)
