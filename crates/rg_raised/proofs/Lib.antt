@@ -1,0 +1,2 @@
+-- Programs that raise modules, computed.
+mod Examples
