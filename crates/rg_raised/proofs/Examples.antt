@@ -1,5 +1,6 @@
 -- Programs that raise modules, and names that don't, computed.
-use Rattle.std.proofs.Common.{◌≡◌, ℕ, pos, List, [], ◌∷◌, codes, refl}
+use Rattle.std.proofs.Common.{◌≡◌, ℕ, pos, List, [], ◌∷◌, bytes_eq, codes, refl, ap}
+use Rattle.std.proofs.lemmas.Bool.{false≢true}
 use Rattle.std.specs.Fmt.{digits}
 use Rattle.rg_base.specs.declared.words.Manager.TheVariants as manager
 use Rattle.rg_base.specs.declared.words.Keyword.TheVariants as w
@@ -49,7 +50,7 @@ seven-raises = record {
   accepted = refl;
   within = seven-within;
   its_module = refl;
-  numbered = record { classes = tt; body = tt };
+  numbered = record { classes = tt; body = (tt, tt) };
 }
 
 -- `let v0: int = 7;` has the name of its slot; with another name the program raises nothing
@@ -67,4 +68,4 @@ one-numbered = record { classes = tt; body = (refl, tt) }
 
 one-other : IsNumbered (one (codes "v1")) → ⊥
 unfolding digits
-one-other n = let e = n.body.0 in cc
+one-other n = false≢true (ap (λ (x : List ℕ). bytes_eq x (codes "v0")) n.body.0)

@@ -1,2 +1,4 @@
--- Programs that raise modules, computed.
+-- Bodies that are told stand, and programs that raise modules, computed.
+mod Ends
+pub mod Bodies
 mod Examples

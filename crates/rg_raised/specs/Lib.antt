@@ -1,2 +1,4 @@
--- The programs that a module is of, and what is raised from a module as a whole (docs/architecture.md, "Modules").
+-- The programs that a module is of, and the bodies that are raised from its code (docs/architecture.md, "Modules").
 pub mod Raises
+pub mod Told
+pub mod Standing

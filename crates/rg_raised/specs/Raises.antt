@@ -23,6 +23,20 @@ pub record IsWithinLimits (t : Tree) : Type 0 where
 
 -- Names. The variable of slot k is `vk`; slot 0 of a method has `self`.
 
+-- how many variables there are behind a statement
+abbrev pub slots_after : (slots : ℕ) → StmtKind → ℕ
+slots_after n (declare x t r) = suc n
+slots_after n (assign p r) = n
+slots_after n (assign_element q e r) = n
+slots_after n (call c) = n
+slots_after n (swap y p) = n
+slots_after n (branch e b other) = n
+slots_after n (while e b) = n
+slots_after n (enter p z b giving) = n
+slots_after n (print e) = n
+slots_after n collect = n
+slots_after n (return e) = n
+
 abbrev mutual
   -- the names that a statement declares, in front of which there are so many variables
   pub IsKindNumbered : (slots : ℕ) → StmtKind → Type 0
@@ -47,20 +61,6 @@ abbrev mutual
   pub IsBlockNumbered : (slots : ℕ) → Block → Type 0
   IsBlockNumbered n empty = Unit {0}
   IsBlockNumbered n (next (stmt line k) b) = IsKindNumbered n k × IsBlockNumbered (slots_after n k) b
-
-  -- how many variables there are behind a statement
-  pub slots_after : (slots : ℕ) → StmtKind → ℕ
-  slots_after n (declare x t r) = suc n
-  slots_after n (assign p r) = n
-  slots_after n (assign_element q e r) = n
-  slots_after n (call c) = n
-  slots_after n (swap y p) = n
-  slots_after n (branch e b other) = n
-  slots_after n (while e b) = n
-  slots_after n (enter p z b giving) = n
-  slots_after n (print e) = n
-  slots_after n collect = n
-  slots_after n (return e) = n
 
 -- parameters, the first of which comes into a slot
 abbrev pub AreParamsNumbered : (slot : ℕ) → List Param → Type 0
