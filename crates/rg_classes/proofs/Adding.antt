@@ -122,12 +122,30 @@ method-row {t} {u} {v} {w} k h r b {name} {params} {result} a c d m =
             let i = o.is x j in
             let block = ap (λ (y : Bodied). y.block) i in
             let line = ap (λ (y : Bodied). y.line) i in
-            ap (λ (y : Name). tree.method (record { receiver = h.cap; name = y; params = params_in x params; result = result_of x result;
-            body = block_of x r.block; line = r.line })) e
-            ∙ ap (λ (y : List Param). tree.method (record { receiver = h.cap; name = method_name k; params = y; result = result_of x result;
-            body = block_of x r.block; line = r.line })) f
-            ∙ ap (λ (y : Option tree.Ty). tree.method (record { receiver = h.cap; name = method_name k; params = numbered param_written 1 h.params;
-            result = y; body = block_of x r.block; line = r.line })) g
+            ap (λ (y : Name). tree.method (record {
+              receiver = h.cap;
+              name = y;
+              params = params_in x params;
+              result = result_of x result;
+              body = block_of x r.block;
+              line = r.line;
+            })) e
+            ∙ ap (λ (y : List Param). tree.method (record {
+              receiver = h.cap;
+              name = method_name k;
+              params = y;
+              result = result_of x result;
+              body = block_of x r.block;
+              line = r.line;
+            })) f
+            ∙ ap (λ (y : Option tree.Ty). tree.method (record {
+              receiver = h.cap;
+              name = method_name k;
+              params = numbered param_written 1 h.params;
+              result = y;
+              body = block_of x r.block;
+              line = r.line;
+            })) g
             ∙ ap (λ (y : Bodied). tree.method (method_written k h y)) i;
         there = λ x j. (n.there x j, p.there x j, d.means.there x j, o.there x j);
       };
@@ -190,17 +208,27 @@ pub class-row : {t : Tables} (k : ℕ) (shape : Shape) (methods : List Member) {
     → Means name_at IsNameIn t name (class_name k) → Means result_of IsResultIn t element (option_map written shape.element)
     → Means members_in AreMembersIn t s (numbered field_written 0 shape.fields ++ methods)
     → Means class_of IsClassIn t (record { name = name; is_tmp = shape.is_tmp; element = element; members = s; line = 0 })
-      (class_written k shape methods)
+    (class_written k shape methods)
 class-row {t} k shape methods {name} {element} {s} a b c = record {
   is = λ x j.
       let e = a.is x j in
       let f = b.is x j in
       let g = members-means x element shape.element s shape.fields methods f (c.is x j) in
       ap (λ (y : Name). record { name = y; is_tmp = shape.is_tmp; element = result_of x element; members = members_under x element s; line = 0 }) e
-      ∙ ap (λ (y : Option tree.Ty). record { name = class_name k; is_tmp = shape.is_tmp; element = y; members = members_under x element s;
-      line = 0 }) f
-      ∙ ap (λ (y : List Member). record { name = class_name k; is_tmp = shape.is_tmp; element = option_map written shape.element; members = y;
-      line = 0 }) g;
+      ∙ ap (λ (y : Option tree.Ty). record {
+        name = class_name k;
+        is_tmp = shape.is_tmp;
+        element = y;
+        members = members_under x element s;
+        line = 0;
+      }) f
+      ∙ ap (λ (y : List Member). record {
+        name = class_name k;
+        is_tmp = shape.is_tmp;
+        element = option_map written shape.element;
+        members = y;
+        line = 0;
+      }) g;
   there = λ x j. record { name = a.there x j; element = b.there x j; members = c.there x j };
 }
 
@@ -277,7 +305,7 @@ pub class-is : (class : ℕ) (shape : Shape) (methods : List Member) (types : Li
     → ((ms : List Member) → AreMembers t3 fields ms → AreMembers t4 all (ms ++ methods)) → Extends t3 t4 → Keeps t4 t5
     → program_of t5 ≡ program_of t4 → held ≡ all → Holds t5 s held
     → Means class_of IsClassIn t5 (record { name = name; is_tmp = shape.is_tmp; element = element; members = s; line = 0 })
-      (class_written class shape methods)
+    (class_written class shape methods)
 class-is class shape methods types {t2 = t2} {t3 = t3} {t4 = t4} {t5 = t5} {s = s} {fields = fields} {all = all} a b none same fs g ms h k p is held =
     let last = extends-by k p in
     let later = extends-trans h last in

@@ -56,13 +56,12 @@ module _ {A : Type 0} (at : Tables → ℕ → A) (exists : Tables → ℕ → T
           let x = each k t in
           let pushed = means-push at exists means a in
           let left : numbered each k (t ∷ drop (i + 1) types) ≡ x ∷ numbered each (k + 1) (drop (i + 1) types) =
-          ap (λ (j : ℕ). x ∷ numbered each j (drop (i + 1) types)) (more-by k) in
-          (
+          ap (λ (j : ℕ). x ∷ numbered each j (drop (i + 1) types)) (more-by k) in (
             done ++ x ∷ [],
             subst (λ (ns : List ℕ). Means (λ u. map (at u)) (λ u. All (exists u)) new ns (xs ++ (done ++ x ∷ []))) (sym more-is)
-            (subst (Means (λ u. map (at u)) (λ u. All (exists u)) new (numbers ++ n ∷ [])) (append_assoc xs done (x ∷ [])) pushed),
+                (subst (Means (λ u. map (at u)) (λ u. All (exists u)) new (numbers ++ n ∷ [])) (append_assoc xs done (x ∷ [])) pushed),
             append_assoc done (x ∷ []) (numbered each (k + 1) (drop (i + 1) types)) ∙ ap (λ (ys : List A). done ++ ys) (sym left)
-            ∙ ap (λ (ts : List Ty). done ++ numbered each k ts) (sym rest) ∙ all,
+                ∙ ap (λ (ts : List Ty). done ++ numbered each k ts) (sym rest) ∙ all,
           );
     }
 
@@ -136,17 +135,16 @@ module _ (class next : ℕ) (heads : List Head) (rows : List BodyRow) (old : Tab
               let pushed = means-push member_at IsMemberNumber means added in
               let bodies = drop-here bs at b there in
               let left : methods_written class k (drop at heads) (drop at bs)
-                  ≡ x ∷ methods_written class (k + 1) (drop (at + 1) heads) (drop (at + 1) bs) =
+              ≡ x ∷ methods_written class (k + 1) (drop (at + 1) heads) (drop (at + 1) bs) =
               ap (λ (hs : List Head). methods_written class k hs (drop at bs)) rest
               ∙ ap (methods_written class k (h ∷ drop (at + 1) heads)) bodies
               ∙ written-yes class k h (drop (at + 1) heads) b (drop (at + 1) bs) is
-              ∙ ap (λ (j : ℕ). x ∷ methods_written class j (drop (at + 1) heads) (drop (at + 1) bs)) (more-by k) in
-              (
+              ∙ ap (λ (j : ℕ). x ∷ methods_written class j (drop (at + 1) heads) (drop (at + 1) bs)) (more-by k) in (
                 done ++ x ∷ [],
                 subst (λ (ns : List ℕ). AreMembers new ns (ms ++ (done ++ x ∷ []))) (sym more-is)
-                (subst (AreMembers new (members ++ n ∷ [])) (append_assoc ms done (x ∷ [])) pushed),
+                    (subst (AreMembers new (members ++ n ∷ [])) (append_assoc ms done (x ∷ [])) pushed),
                 append_assoc done (x ∷ []) (methods_written class (k + 1) (drop (at + 1) heads) (drop (at + 1) bs))
-                ∙ ap (λ (ys : List Member). done ++ ys) (sym left) ∙ all,
+                    ∙ ap (λ (ys : List Member). done ++ ys) (sym left) ∙ all,
               );
         }
 
@@ -217,17 +215,16 @@ module _ (shapes : List Shape) (heads : List Head) (rows : List BodyRow) (old : 
         let heads-are : drop n (drop next heads) ≡ drop behind heads = drop-drop n next heads ∙ ap (λ (j : ℕ). drop j heads) (sym is) in
         let bodies-are : drop n (drop next bs) ≡ drop behind bs = drop-drop n next bs ∙ ap (λ (j : ℕ). drop j bs) (sym is) in
         let left : classes_written class (drop i shapes) (drop next heads) (drop next bs)
-            ≡ x ∷ classes_written (class + 1) (drop (i + 1) shapes) (drop behind heads) (drop behind bs) =
+        ≡ x ∷ classes_written (class + 1) (drop (i + 1) shapes) (drop behind heads) (drop behind bs) =
         ap (λ (ss : List Shape). classes_written class ss (drop next heads) (drop next bs)) rest
         ∙ ap (λ (hs : List Head). x ∷ classes_written (suc class) (drop (i + 1) shapes) hs (drop n (drop next bs))) heads-are
         ∙ ap (λ (ys : List Bodied). x ∷ classes_written (suc class) (drop (i + 1) shapes) (drop behind heads) ys) bodies-are
-        ∙ ap (λ (j : ℕ). x ∷ classes_written j (drop (i + 1) shapes) (drop behind heads) (drop behind bs)) (more-by class) in
-        (
+        ∙ ap (λ (j : ℕ). x ∷ classes_written j (drop (i + 1) shapes) (drop behind heads) (drop behind bs)) (more-by class) in (
           done ++ x ∷ [],
           added ∙ ap (λ (p : Tree). record p { classes = p.classes ++ x ∷ [] }) program
-          ∙ ap (λ (cs : List Class). record (program_of old) { classes = cs }) (append_assoc (classes_of old) done (x ∷ [])),
+              ∙ ap (λ (cs : List Class). record (program_of old) { classes = cs }) (append_assoc (classes_of old) done (x ∷ [])),
           append_assoc done (x ∷ []) (classes_written (class + 1) (drop (i + 1) shapes) (drop behind heads) (drop behind bs))
-          ∙ ap (λ (ys : List Class). done ++ ys) (sym left) ∙ all,
+              ∙ ap (λ (ys : List Class). done ++ ys) (sym left) ∙ all,
         );
   }
 

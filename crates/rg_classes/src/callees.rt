@@ -53,11 +53,7 @@ fn have_few_fields(shapes: &[Shape]) -> bool
 }
 
 // The methods of classes of which there are no more than may be.
-fn number_callees(
-    alloc: Global,
-    shapes: &[Shape],
-    heads: &[Head],
-) -> Result<Vec<Callee>, Refusal>
+fn number_callees(alloc: Global, shapes: &[Shape], heads: &[Head]) -> Result<Vec<Callee>, Refusal>
     requires { length shapes.now ≤ CLASSES }
     ensures { NumbersCallees shapes.now heads.now result }
 {
@@ -86,11 +82,7 @@ fn number_callees(
 /// The methods of a module in order of their numbers; or its tables are of no program within the
 /// limits: a class has too many fields or methods, there are too many classes, a method has too
 /// many parameters, is of no class or of an array class, or comes behind one of a later class.
-pub fn find_callees(
-    alloc: Global,
-    shapes: &[Shape],
-    heads: &[Head],
-) -> Result<Vec<Callee>, Refusal>
+pub fn find_callees(alloc: Global, shapes: &[Shape], heads: &[Head]) -> Result<Vec<Callee>, Refusal>
     ensures { FindsCallees shapes.now heads.now result }
 {
     if shapes.len() > CLASSES {

@@ -30,17 +30,17 @@ seven-within = record {
   is_spelt = (
     _,
     program_main refl (manager_row refl)
-    (block_row refl refl
-    (more_stmts refl
-    (print_row refl
-    (expr_row
-    (and_row
-    (no_not refl (cmp_row (sum_row (mul_row (no_minus refl (literal refl)) (no_mul refl)) (no_sum refl)) (not_compared refl)))
-    (no_and refl))
-    (no_or refl))
-    refl)
-    (no_stmts refl))
-    refl),
+        (block_row refl refl
+        (more_stmts refl
+        (print_row refl
+        (expr_row
+        (and_row
+        (no_not refl (cmp_row (sum_row (mul_row (no_minus refl (literal refl)) (no_mul refl)) (no_sum refl)) (not_compared refl)))
+        (no_and refl))
+        (no_or refl))
+        refl)
+        (no_stmts refl))
+        refl),
   );
 }
 

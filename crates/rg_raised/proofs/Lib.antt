@@ -2,3 +2,4 @@
 mod Ends
 pub mod Bodies
 mod Examples
+mod RaisedExamples

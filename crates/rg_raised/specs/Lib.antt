@@ -2,3 +2,4 @@
 pub mod Raises
 pub mod Told
 pub mod Standing
+pub mod Named

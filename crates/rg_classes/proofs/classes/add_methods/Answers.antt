@@ -28,8 +28,8 @@ loop-at-preserved c =
     c.loop-at.program c.loop-at.members.items c.loop-at.at c.loop-at.k c.loop-at.invariant c.add_method.new.program c.push.new.self.items
     c.head_at-head.result.now c.in_ok-number.number c.head_at-head.ensures same
     (λ bs a.
-        let (b, is, means) = body-next c.loop-at.at c.body_at-body.result c.requires a c.loop-at.invariant.grown.keeps c.body_at-body.ensures in
-        (b, is, c.in_ok-number.ensures.adds b means))
+    let (b, is, means) = body-next c.loop-at.at c.body_at-body.result c.requires a c.loop-at.invariant.grown.keeps c.body_at-body.ensures in
+    (b, is, c.in_ok-number.ensures.adds b means))
     c.in_ok-number.ensures.grows c.in-Ok.ensures.items
 
 pub returns-clause-adds : goal.returns-clause-adds
