@@ -1,5 +1,5 @@
 -- Rows that stand for what was written, put together.
-use Rattle.std.proofs.Common.{◌≡◌, ℕ, zero, suc, ◌+◌, ◌<◌, List, [], ◌∷◌, ◌++◌, All, map, length, slice_get, Option, Some, None, refl}
+use Rattle.std.proofs.Common.{◌≡◌, ℕ, zero, suc, ◌<◌, List, [], ◌∷◌, ◌++◌, All, map, length, slice_get, Option, Some, None, refl}
 use Rattle.std.proofs.Common.{option_map, drop, sym, ◌∙◌, ap, subst, arith}
 use Rattle.std.proofs.lemmas.List.{map-append, length-map}
 use Rattle.std.proofs.lemmas.Option.{slice_get-map, slice_get_within}
@@ -16,13 +16,13 @@ use Rattle.rg_tree.specs.Tree as tree
 use Rattle.rg_tree.specs.Tree.{Name, Block, Param, Member, Class, Tree}
 use Rattle.rg_tree.specs.Rows.Tables.{Tables, name_at, numbers_in}
 use Rattle.rg_tree.specs.Rows.RowTrees.{type_of, block_of, param_at, param_of, member_at, member_of, members_under, class_of, classes_of, program_of}
-use Rattle.rg_tree.specs.Rows.RowsExist.{Holds, IsSpanBelow, IsNameIn, IsTypeIn, IsBlockIn, IsParamNumber, IsParamIn, IsMemberNumber, IsMemberIn}
+use Rattle.rg_tree.specs.Rows.RowsExist.{Holds, IsSpanBelow, IsNameIn, IsTypeIn, IsParamNumber, IsParamIn, IsMemberNumber, IsMemberIn}
 use Rattle.rg_tree.specs.Rows.RowsExist.{IsClassIn}
 use Rattle.rg_tree.specs.Keeps.{Keeps}
 use Rattle.rg_tree.specs.Adds.{Extends, Means, Adds}
 use Rattle.rg_tree.proofs.Callers.{Keeps-same, Keeps-trans, Holds-keeps, IsAbove-Keeps, block_of-keeps}
 use Rattle.rg_tree.proofs.Grows.{IsBlockIn-grows}
-use Rattle.rg_tree.proofs.Adding.{extends-same, extends-trans, extends-by, means-later, param-means, member-means}
+use Rattle.rg_tree.proofs.Adding.{extends-trans, extends-by, means-later, param-means, member-means}
 use Rattle.rg_spell.specs.declared.rows.Head.{Head}
 use Rattle.rg_spell.specs.declared.rows.Shape.{Shape}
 use Rattle.rg_verify.specs.Naming.{written, field_name, method_name, variable_name, class_name}

@@ -1,5 +1,5 @@
 -- What the loops over types, methods and classes keep.
-use Rattle.std.proofs.Common.{◌≡◌, ◌==◌, ℕ, zero, suc, ◌+◌, ◌<◌, ◌≤◌, Bool as Truth, true, false, if◌then◌else◌, List, [], ◌∷◌, ◌++◌, All, map}
+use Rattle.std.proofs.Common.{◌≡◌, ◌==◌, ℕ, suc, ◌+◌, ◌≤◌, Bool as Truth, true, false, if◌then◌else◌, List, [], ◌∷◌, ◌++◌, All, map}
 use Rattle.std.proofs.Common.{length, drop, slice_get, Some, refl, sym, ◌∙◌, ap, subst, append_assoc, arith}
 use Rattle.std.proofs.lemmas.List.{append-nil, drop_all, drop-drop}
 use Rattle.rg_base.specs.declared.ty.Ty.{Ty}
@@ -11,7 +11,7 @@ use Rattle.rg_tree.specs.Rows.RowsExist.{IsMemberNumber}
 use Rattle.rg_tree.specs.Adds.{Extends, Means, Adds}
 use Rattle.rg_tree.specs.Keeps.{Keeps}
 use Rattle.rg_tree.proofs.Callers.{Keeps-same, Keeps-trans}
-use Rattle.rg_tree.proofs.Adding.{extends-same, extends-trans, means-later}
+use Rattle.rg_tree.proofs.Adding.{extends-same, extends-trans}
 use Rattle.rg_spell.specs.declared.rows.Head.{Head}
 use Rattle.rg_spell.specs.declared.rows.Shape.{Shape}
 use Rattle.rg_classes.specs.declared.body_row.BodyRow.{BodyRow}
