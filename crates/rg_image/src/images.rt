@@ -7,7 +7,7 @@ ghost use Rattle.rg_names.specs.TableOf.{IsTableOf};
 ghost use Rattle.rg_cown.specs.Cargo.{CargoList};
 ghost use Rattle.rg_image.specs.ImageText.{image_text};
 ghost use Rattle.rg_image.specs.Inner.Ranges.{RangedContent};
-ghost use Rattle.rg_image.specs.Images.{IsContent, IsImage, Decodes, Answers, not_image};
+ghost use Rattle.rg_image.specs.Images.{IsContent, IsImage, Decodes, Answers};
 
 use crate::reading::read;
 use crate::sound::is_sound;
@@ -41,14 +41,6 @@ pub fn encode(alloc: Global, content: Option<&Cargo>) -> Result<ByteList, Memory
     Ok(bytes)
 }
 
-// What bytes that are no image are answered with.
-fn no_image() -> Stop
-    ensures { result ≡ Stop.Fault not_image }
-{
-    let code = Code::Image;
-    Stop::Fault(Fault { code, line: 0 })
-}
-
 /// The content whose image the bytes are, for a program with its class table, or `E95` at line 0.
 /// Each byte is looked at once, and a count takes no memory before its parts are there.
 pub fn decode(
@@ -62,9 +54,11 @@ pub fn decode(
     ensures again { (content : Option CargoList)
         → IsImage (program_of program.now) bytes.now content → Answers result content }
 {
+    let code = Code::Image;
+    let not_image = Stop::Fault(Fault { code, line: 0 });
     let content = match read(alloc, bytes) {
         Ok(content) => content,
-        Err(Refusal::NotSpelt) => return Err(no_image()),
+        Err(Refusal::NotSpelt) => return Err(not_image),
         Err(Refusal::Memory) => return Err(Stop::Memory),
     };
     let Some(cargo) = content else {
@@ -74,10 +68,10 @@ pub fn decode(
         return Err(Stop::Memory);
     };
     if !sound {
-        return Err(no_image());
+        return Err(not_image);
     }
     if !is_typed(&cargo, program, classes) {
-        return Err(no_image());
+        return Err(not_image);
     }
     Ok(Some(cargo))
 }
