@@ -2,5 +2,5 @@
 mod Paths
 pub mod Bodies
 mod Relined
-mod Told
+pub mod Told
 mod Examples

@@ -1,8 +1,9 @@
--- The module of a program is the same without the lines that no mark has.
+-- The module of a program is the same without the lines that no mark has, and tells the others.
 use Rattle.std.proofs.Common.{◌≡◌, refl, sym, ap, ◌∙◌, ℕ, suc, Bool as Truth, true, List, [], ◌∷◌, ◌++◌, map, Option, option_map}
 use Rattle.rg_base.specs.declared.ty.Ty.{Ty}
 use Rattle.rg_tree.specs.Tree.{stmt, StmtKind, branch, while, enter, Else, no_else, otherwise, Block, empty as none, then as next, Method, Member}
 use Rattle.rg_tree.specs.Tree.{field, method, Class, Tree}
+use Rattle.rg_tree.specs.Lineless.{lineless}
 use Rattle.rg_rules.specs.Types.{type_of, param_types, method_result}
 use Rattle.rg_code.specs.Code.{Code}
 use Rattle.rg_code.specs.Lowering.{Scope, scope_behind, scope_inside, method_scope, lowered}
@@ -13,6 +14,7 @@ use Rattle.rg_build.specs.Maps.{types_in, inner_maps, else_maps, block_maps, is_
 use Rattle.rg_build.specs.ModuleOf.{field_types, shape_of, shapes_of, head_of, member_heads, class_heads, heads_of, laid, module_of}
 use Rattle.rg_lines.specs.Unlined.{method_unlined, member_unlined, class_unlined, classes_unlined, unlined, SameButLines}
 use Rattle.rg_lines.proofs.Types.{type_of-unlined, types_of-unlined, param_types-unlined, method_result-unlined}
+use Rattle.rg_marks.proofs.Told.{code-tells}
 use Rattle.rg_marks.proofs.Bodies.{scope_behind-unlined, scope_inside-unlined, method_scope-unlined, lowered-unlined}
 
 -- Maps
@@ -123,3 +125,6 @@ module_of-unlined t =
 
 pub same-module : (t u : Tree) → SameButLines t u → module_of t ≡ module_of u
 same-module t u h = sym (module_of-unlined t) ∙ (ap module_of h ∙ module_of-unlined u)
+
+pub module-tells : (t u : Tree) → lineless t ≡ lineless u → module_of t ≡ module_of u → SameButLines t u
+module-tells t u h g = code-tells t u h (ap (λ (p : Parts). p.code) g)

@@ -1,2 +1,2 @@
--- The law that the module of a program has no lines but those of marks (docs/architecture.md, "Modules").
+-- The laws that the module of a program has exactly the lines of marks (docs/architecture.md, "Modules").
 pub mod Laws
