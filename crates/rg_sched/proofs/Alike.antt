@@ -1,5 +1,5 @@
 -- Two schedules behind which each behaviour has ended tell the same.
-use Rattle.std.proofs.Common.{◌≡◌, ◌≢◌, ℕ, zero, suc, ◌+◌, ◌-◌, ◌<◌, ◌≤◌, ◌⊎◌, inl, inr, true, false, List, [], ◌∷◌, ◌++◌, length, get_or, Option, Some, None}
+use Rattle.std.proofs.Common.{◌≡◌, ℕ, zero, suc, ◌+◌, ◌-◌, ◌<◌, ◌⊎◌, inl, inr, true, false, List, [], ◌∷◌, ◌++◌, length, get_or, Option, Some, None}
 use Rattle.std.proofs.Common.{slice_get, refl, sym, ap, ◌∙◌, subst, arith}
 use Rattle.std.specs.Prelude.{slice_index}
 use Rattle.std.proofs.lemmas.List.{length-replicate}
@@ -15,11 +15,11 @@ use Rattle.rg_sched.specs.Numbers.{In, Distinct}
 use Rattle.rg_sched.specs.Contents.{Content, contents_at}
 use Rattle.rg_sched.specs.Behaviours.{run_of, is_over, has_ended}
 use Rattle.rg_sched.specs.Settings.{Setting}
-use Rattle.rg_sched.specs.Atomic.{Told, at_first, tell, do_one, do_all, atomic, World}
+use Rattle.rg_sched.specs.Atomic.{Told, at_first, tell, do_one, do_all, World}
 use Rattle.rg_sched.specs.Laws.{AllEnded, numbers_below}
 use Rattle.rg_sched.proofs.Lists.{in_either, distinct_push, not_in_back}
 use Rattle.rg_sched.proofs.Commutes.{run_at, do_append, run_told}
-use Rattle.rg_sched.proofs.Worlds.{Earlier, Stands, either_less}
+use Rattle.rg_sched.proofs.Worlds.{Earlier, Stands}
 use Rattle.rg_sched.proofs.Order.{in_plan_order}
 
 -- A run that has ended stays as it is

@@ -17,7 +17,7 @@ use Rattle.rg_plan.specs.Plans.{Turn as Behaviour}
 use Rattle.rg_sched.specs.declared.phase.Phase.{Phase}
 use Rattle.rg_sched.specs.declared.phase.Phase.TheVariants.{Waiting, Running, Done, Trap}
 use Rattle.rg_sched.specs.Contents.{Content, Away, Empty, Held}
-use Rattle.rg_sched.specs.Behaviours.{phase_of, printed_by}
+use Rattle.rg_sched.specs.Phases.{phase_of, printed_by}
 use Rattle.rg_sched.specs.Settings.{Setting, setting_of}
 use Rattle.rg_sched.specs.Atomic.{Told, atomic}
 use Rattle.rg_sched.specs.Events.{world_after}

@@ -6,4 +6,5 @@ mod Order
 mod Alike
 mod Rest
 mod Named
+mod GoesOn
 mod Examples

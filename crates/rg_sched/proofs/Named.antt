@@ -1,5 +1,5 @@
 -- Numbers of which no two are equal.
-use Rattle.std.proofs.Common.{◌≡◌, ◌≢◌, ℕ, zero, suc, ◌<◌, inl, inr, List, [], ◌∷◌, length, get_or, AllPairs, refl, sym, ap, ◌∙◌, arith}
+use Rattle.std.proofs.Common.{◌≡◌, ◌≢◌, ℕ, suc, ◌<◌, inl, inr, List, [], ◌∷◌, length, get_or, AllPairs, sym, arith}
 use Rattle.rg_sched.specs.Numbers.{In, Distinct}
 
 -- a number stands at a place

@@ -6,18 +6,16 @@ use Rattle.std.specs.Prelude.{slice_index}
 use Rattle.std.proofs.lemmas.Option.{slice_get_within}
 use Rattle.rg_tree.specs.Tree.{Class}
 use Rattle.rg_rules.specs.Types.{fields_of}
-use Rattle.rg_rules.specs.Runs.{Ran}
 use Rattle.rg_plan.specs.Plans.{Turn as Behaviour}
 use Rattle.rg_sched.specs.Numbers.{In, Distinct}
 use Rattle.rg_sched.specs.Contents.{contents_at, left_by}
 use Rattle.rg_sched.specs.Behaviours.{run_of, share}
 use Rattle.rg_sched.specs.Settings.{Setting}
 use Rattle.rg_sched.specs.Atomic.{Told, at_first, tell, do_one, do_all, atomic, World, WorldOf}
-use Rattle.rg_sched.specs.Events.{world_after}
-use Rattle.rg_sched.specs.Laws.{NoneTwice, AllEnded, numbers_below}
-use Rattle.rg_sched.proofs.Lists.{Apart, in_either, in_front, in_back, Around, around, not_in_front, not_in_back, not_both, contents_stay}
+use Rattle.rg_sched.specs.Laws.{AllEnded, numbers_below}
+use Rattle.rg_sched.proofs.Lists.{Apart, in_either, in_back, Around, around, not_in_front, not_in_back, not_both, contents_stay}
 use Rattle.rg_sched.proofs.Commutes.{one_commutes, do_append}
-use Rattle.rg_sched.proofs.Worlds.{shares, Stands, world_stands, ended-begun}
+use Rattle.rg_sched.proofs.Worlds.{shares, Stands, ended-begun}
 
 -- Two behaviours that share no cown are done in either order
 

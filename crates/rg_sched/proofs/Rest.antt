@@ -1,5 +1,5 @@
 -- Each content is at rest or in one running behaviour.
-use Rattle.std.proofs.Common.{◌≡◌, ◌≢◌, ℕ, zero, suc, ◌<◌, ◌⊎◌, inl, inr, Bool, true, false, List, [], ◌∷◌, ◌++◌, length, map, get_or, set, Option, Some, None}
+use Rattle.std.proofs.Common.{◌≡◌, ◌≢◌, ℕ, zero, suc, ◌<◌, ◌⊎◌, inl, inr, Bool, true, false, List, [], ◌∷◌, length, map, get_or, set, Option, Some, None}
 use Rattle.std.proofs.Common.{◌||◌, nat_eq, slice_get, refl, sym, ap, ◌∙◌, subst, arith, replicate}
 use Rattle.std.specs.Prelude.{if◌then◌else◌}
 use Rattle.std.specs.List.{list_any}
@@ -14,11 +14,11 @@ use Rattle.rg_rules.specs.State.{State}
 use Rattle.rg_rules.specs.Runs.{Ending, Running, Done, Stopped, Ran}
 use Rattle.rg_cown.specs.Cargo.{CargoList}
 use Rattle.rg_plan.specs.Plans.{Turn as Behaviour, among}
-use Rattle.rg_sched.specs.Numbers.{In, Distinct}
+use Rattle.rg_sched.specs.Numbers.{In}
 use Rattle.rg_sched.specs.Contents.{Content, Away, Empty, Held, first_of, rest_of, put, contents_at, content_of, goes_back, left_by}
 use Rattle.rg_sched.specs.Behaviours.{run_of, cowns_in, cowns_of, share, is_over, has_ended}
 use Rattle.rg_sched.specs.Settings.{Setting}
-use Rattle.rg_sched.specs.Atomic.{Told, at_first, tell, do_one, do_all, World, WorldOf}
+use Rattle.rg_sched.specs.Atomic.{Told, tell, World}
 use Rattle.rg_sched.specs.Events.{may_begin, begins, one_more, steps_on, event_by, event_of, event, after, first_world, world_after}
 use Rattle.rg_sched.specs.Laws.{NoneTwice, IsRunning, Separate}
 use Rattle.rg_sched.proofs.Lists.{get_set, get_put}

@@ -1,8 +1,8 @@
 -- What holds of a world is kept by each event.
-use Rattle.std.proofs.Common.{◌≡◌, ◌≢◌, ℕ, zero, suc, ◌+◌, ◌<◌, ◌⊎◌, inl, inr, Bool, true, false, not, ◌||◌, List, [], ◌∷◌, ◌++◌, length, get_or, set, All}
+use Rattle.std.proofs.Common.{◌≡◌, ◌≢◌, ℕ, zero, suc, ◌+◌, ◌<◌, ◌⊎◌, inl, inr, Bool, true, false, not, ◌||◌, List, [], ◌∷◌, ◌++◌, length, get_or, set}
 use Rattle.std.proofs.Common.{Option, Some, None, slice_get, refl, sym, ap, ◌∙◌, subst, arith, replicate, unwrap_or}
 use Rattle.std.specs.Prelude.{slice_index, if◌then◌else◌}
-use Rattle.std.specs.List.{list_any, list_all, range_with_len}
+use Rattle.std.specs.List.{list_any, range_with_len}
 use Rattle.std.proofs.lemmas.Bool.Decides.{nat_tests}
 use Rattle.std.proofs.lemmas.List.{get_or-set_other, length-set, length-replicate}
 use Rattle.std.proofs.lemmas.List.FromFn.{length-range_with_len, get_or-range_with_len}
@@ -13,13 +13,13 @@ use Rattle.rg_rules.specs.Runs.{Ending, Running, Done, Stopped, Ran}
 use Rattle.rg_rules.proofs.Run.{plain_from-suc}
 use Rattle.rg_plan.specs.Plans.{Turn as Behaviour, among}
 use Rattle.rg_sched.specs.Numbers.{In, Distinct}
-use Rattle.rg_sched.specs.Contents.{Content, contents_at}
+use Rattle.rg_sched.specs.Contents.{Content}
 use Rattle.rg_sched.specs.Behaviours.{run_of, cowns_in, cowns_of, share, is_over, has_ended}
 use Rattle.rg_sched.specs.Settings.{Setting}
 use Rattle.rg_sched.specs.Atomic.{Told, at_first, tell, do_one, do_all, atomic, World, WorldOf}
 use Rattle.rg_sched.specs.Events.{may_begin, begins, one_more, steps_on, event_by, event_of, event, after, first_world, world_after}
 use Rattle.rg_sched.specs.Laws.{NoneTwice}
-use Rattle.rg_sched.proofs.Lists.{Apart, in_front, in_back, in_either, Around, around, not_in_front, not_in_back, not_both, distinct_push}
+use Rattle.rg_sched.proofs.Lists.{in_front, in_back, in_either, Around, around, not_in_front, not_in_back, not_both, distinct_push}
 use Rattle.rg_sched.proofs.Commutes.{Clear, run_at, other_steps, one_begins, do_all-other, do_one-other, run_told}
 
 -- Small facts
@@ -130,7 +130,7 @@ pub shares : (bs : List Behaviour) (i k : ℕ) (b d : Behaviour) → slice_get b
 shares bs i k b d p q n h g =
     any-in (cowns_of bs i) (cowns_of bs k) n (subst (λ o. In (cowns_in o) n) (sym p) h) (subst (λ o. In (cowns_in o) n) (sym q) g)
 
-zero-add : (k : ℕ) → 0 + k ≡ k
+pub zero-add : (k : ℕ) → 0 + k ≡ k
 zero-add k = omega arith
 
 -- a behaviour that begins: each lower-numbered one that shares a cown with it has ended

@@ -1,15 +1,12 @@
--- Behaviours: on what they run, which of them share a cown, and how they stand (docs/architecture.md, "Schedules").
+-- Behaviours: on what they run, which of them share a cown, and which have ended (docs/architecture.md, "Schedules").
 use Rattle.std.specs.Prelude.{ℕ, Bool as Truth, true, false, List, [], ◌∷◌, ◌++◌, filter_map, Option, Some, None, slice_get, slice_index_or}
 use Rattle.std.specs.List.{list_any}
 use Rattle.rg_base.specs.declared.words.Cap.TheVariants.{Mut}
-use Rattle.rg_base.specs.declared.value.Val.{Val}
 use Rattle.rg_tree.specs.Tree.{empty, Method, Class}
 use Rattle.rg_rules.specs.Types.{fields_of, method_member}
 use Rattle.rg_rules.specs.Runs.{Ending, Running, Done, Stopped, Ran, plain_from}
 use Rattle.rg_opening.specs.Opening.{opening_of}
 use Rattle.rg_plan.specs.Plans.{Turn as Behaviour, among}
-use Rattle.rg_sched.specs.declared.phase.Phase.{Phase}
-use Rattle.rg_sched.specs.declared.phase.Phase.TheVariants as phase
 use Rattle.rg_sched.specs.Contents.{Content, givens}
 
 -- all methods of a program, in source order: each goes by its number
@@ -47,17 +44,3 @@ is_over (Stopped kind line) = true
 abbrev pub has_ended : Option Ran → Truth
 has_ended None = false
 has_ended (Some r) = is_over r.ending
-
--- how it stands, and what it has printed
-abbrev pub phase_by : Ending → Phase
-phase_by Running = phase.Running
-phase_by Done = phase.Done
-phase_by (Stopped kind line) = phase.Trap kind line
-
-abbrev pub phase_of : Option Ran → Phase
-phase_of None = phase.Waiting
-phase_of (Some r) = phase_by r.ending
-
-abbrev pub printed_by : Option Ran → List Val
-printed_by None = []
-printed_by (Some r) = r.state.output

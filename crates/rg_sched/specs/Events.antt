@@ -7,7 +7,7 @@ use Rattle.rg_rules.specs.Runs.{Ending, Running, Done, Stopped, Ran, plain_from}
 use Rattle.rg_plan.specs.Plans.{Turn as Behaviour}
 use Rattle.rg_sched.specs.Behaviours.{share, has_ended}
 use Rattle.rg_sched.specs.Settings.{Setting}
-use Rattle.rg_sched.specs.Atomic.{Told, at_first, tell, do_one, World}
+use Rattle.rg_sched.specs.Atomic.{at_first, tell, do_one, World}
 
 -- whether every lower-numbered behaviour that shares a cown with it has ended
 abbrev pub may_begin : List Behaviour → List (Option Ran) → (number : ℕ) → Truth

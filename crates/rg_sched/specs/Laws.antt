@@ -1,5 +1,6 @@
 -- What holds behind every schedule (docs/architecture.md, "Schedules").
-use Rattle.std.specs.Prelude.{◌≡◌, ◌≢◌, ℕ, zero, suc, ◌<◌, true, false, List, [], ◌∷◌, ◌++◌, length, All, Some, None, Ok, slice_index_or}
+use Rattle.std.specs.Prelude.{◌≡◌, ◌≢◌, ℕ, zero, suc, ◌<◌, true, false, List, [], ◌∷◌, ◌++◌, length, All, Some, None, Ok, ◌⊎◌}
+use Rattle.std.specs.Prelude.{slice_index, slice_index_or, slice_set}
 use Rattle.rg_tree.specs.Tree.{Class, Tree}
 use Rattle.rg_rules.specs.Runs.{Running, Ran}
 use Rattle.rg_cown.specs.Cargo.{CargoList}
@@ -10,7 +11,7 @@ use Rattle.rg_sched.specs.Contents.{Empty, Away}
 use Rattle.rg_sched.specs.Behaviours.{cowns_of, share, has_ended}
 use Rattle.rg_sched.specs.Settings.{Setting, setting_of}
 use Rattle.rg_sched.specs.Atomic.{atomic, World, WorldOf}
-use Rattle.rg_sched.specs.Events.{world_after}
+use Rattle.rg_sched.specs.Events.{event, world_after}
 
 -- no behaviour names a cown twice
 abbrev pub NoneTwice : Setting → Type 0
@@ -59,3 +60,11 @@ pub record Separate (s : Setting) (w : World) : Type 0 where
 
 abbrev pub AllSeparate : Type 0
 AllSeparate = (classes : List Class) (s : Setting) (schedule : List ℕ) → NoneTwice s → Separate s (world_after classes s schedule)
+
+-- There is always one that can go on: where all lower-numbered behaviours have ended, one that hasn't ended begins or makes a step.
+abbrev pub OneGoesOn : Type 0
+OneGoesOn =
+    (classes : List Class) (s : Setting) (w : World) (i : ℕ) → i < length s.behaviours → has_ended (slice_index_or w.told.runs i None) ≡ false →
+    ((k : ℕ) → k < i → has_ended (slice_index_or w.told.runs k None) ≡ true) →
+    ((event classes s.behaviours i w).began ≡ w.began ++ i ∷ []) ⊎
+    ((event classes s.behaviours i w).turns ≡ slice_set w.turns i (suc (slice_index w.turns i)))

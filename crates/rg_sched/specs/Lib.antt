@@ -2,6 +2,7 @@
 pub mod Numbers
 pub mod Contents
 pub mod Behaviours
+pub mod Phases
 pub mod Settings
 pub mod Atomic
 pub mod Events

@@ -1,5 +1,5 @@
 -- With what the cowns of a plan begin (docs/architecture.md, "Schedules").
-use Rattle.std.specs.Prelude.{◌≡◌, ℕ, List, [], ◌∷◌, map}
+use Rattle.std.specs.Prelude.{ℕ, List, [], ◌∷◌, map}
 use Rattle.rg_base.specs.declared.object.Label.TheVariants.{Region}
 use Rattle.rg_base.specs.declared.words.Manager.{Manager}
 use Rattle.rg_tree.specs.Tree.{Field, Class}

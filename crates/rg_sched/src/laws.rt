@@ -2,7 +2,7 @@
 //! (docs/architecture.md, "Schedules").
 
 ghost use Rattle.rg_sched.specs.Laws.{PlansAreSettings, OneByOne, InPlanOrder, AllAlike};
-ghost use Rattle.rg_sched.specs.Laws.{AllSeparate};
+ghost use Rattle.rg_sched.specs.Laws.{AllSeparate, OneGoesOn};
 
 use rg_plan::plans_are_good;
 
@@ -33,4 +33,9 @@ pub fn ended_alike()
 /// At each moment the content of each cown is at rest or in one running behaviour.
 pub fn contents_are_separate()
     ensures { AllSeparate }
+{}
+
+/// While a behaviour hasn't ended, the one of them with the least number can begin or make a step.
+pub fn one_goes_on()
+    ensures { OneGoesOn }
 {}

@@ -11,6 +11,6 @@ mod phase;
 
 pub use laws::{
     contents_are_separate, ended_alike, ended_as_in_plan_order, every_schedule_is_one_by_one,
-    plans_are_settings,
+    one_goes_on, plans_are_settings,
 };
 pub use phase::Phase;
