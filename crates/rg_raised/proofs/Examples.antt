@@ -1,5 +1,5 @@
 -- Programs that raise modules, and names that don't, computed.
-use Rattle.std.proofs.Common.{◌≡◌, ℕ, pos, List, [], ◌∷◌, bytes_eq, codes, refl, ap}
+use Rattle.std.proofs.Common.{ℕ, pos, List, [], ◌∷◌, bytes_eq, codes, refl, ap}
 use Rattle.std.proofs.lemmas.Bool.{false≢true}
 use Rattle.std.specs.Fmt.{digits}
 use Rattle.rg_base.specs.declared.words.Manager.TheVariants as manager

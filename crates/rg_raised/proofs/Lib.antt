@@ -1,5 +1,5 @@
--- Bodies that are told stand, and programs that raise modules, computed.
-mod Ends
-pub mod Bodies
+-- Rows of a whole program, and programs that raise modules, computed.
+mod Few
+mod Rows
 mod Examples
 mod RaisedExamples

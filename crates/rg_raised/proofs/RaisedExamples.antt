@@ -1,5 +1,5 @@
 -- Programs raised from their modules again, computed.
-use Rattle.std.proofs.Common.{◌≡◌, pos, true, false, List, [], ◌∷◌, Option, Some, None, option_map, codes, refl}
+use Rattle.std.proofs.Common.{◌≡◌, pos, true, false, List, [], ◌∷◌, Option, Some, None, codes, refl}
 use Rattle.std.specs.Fmt.{digits}
 use Rattle.rg_base.specs.declared.words.Cap.TheVariants as cap
 use Rattle.rg_base.specs.declared.words.Manager.TheVariants as manager
@@ -8,12 +8,11 @@ use Rattle.rg_tree.specs.Tree.{while, print, return, otherwise, Block, empty, th
 use Rattle.rg_verify.specs.Raising.{walk, raised}
 use Rattle.rg_verify.specs.Blocks.{block_told}
 use Rattle.rg_build.specs.ModuleOf.{module_of}
-use Rattle.rg_raised.specs.Told.{bodies_told}
-use Rattle.rg_raised.specs.Named.{tree_named}
+use Rattle.rg_raised.specs.Told.{program_told}
 
 -- what is raised from the module of a program
 abbrev raised_again : Tree → Option Tree
-raised_again t = option_map (tree_named (module_of t)) (bodies_told (module_of t))
+raised_again t = program_told (module_of t)
 
 -- `main arena { print 7; }`
 abbrev seven : Tree

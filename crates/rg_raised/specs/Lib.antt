@@ -1,5 +1,3 @@
--- The programs that a module is of, and the bodies that are raised from its code (docs/architecture.md, "Modules").
+-- The programs that a module is of, and the program that is raised from one (docs/architecture.md, "Modules").
 pub mod Raises
 pub mod Told
-pub mod Standing
-pub mod Named

@@ -2,7 +2,7 @@
 use Rattle.std.specs.Prelude.{◌≡◌, ℕ, suc, List, [], ◌∷◌, length, Option, Some, None, Ok}
 use Rattle.rg_base.specs.declared.token.Token.{Token}
 use Rattle.rg_base.specs.Tokens.{cut}
-use Rattle.rg_tree.specs.Tree.{Name, Ty, stmt, StmtKind, declare, assign, assign_element, call, swap, branch, while, enter, print, collect, return}
+use Rattle.rg_tree.specs.Tree.{Ty, stmt, StmtKind, declare, assign, assign_element, call, swap, branch, while, enter, print, collect, return}
 use Rattle.rg_tree.specs.Tree.{Else, no_else, otherwise, Block, empty, then as next, Param, Method, Member, field, method, Class, Tree}
 use Rattle.rg_tree.specs.Canonical.{canon}
 use Rattle.rg_tree.specs.Grammar.{Spells}

@@ -1,10 +1,10 @@
 //! The programs that raise a module (docs/architecture.md, "Modules"): which these are is a
-//! definition (`Raises` in `specs/Raises`), and so is how the bodies of main and of all methods are
-//! raised from its code, one behind the other (`bodies_told` in `specs/Told`). What that tells
-//! stands in the module, and nothing else does (`bodies_are_told`, with `BodiesStand` of
-//! `specs/Standing`). No call raises them yet.
+//! definition (`Raises` in `specs/Raises`). `raise_module` raises the one program that can be, as
+//! the module's tables and code tell it (`program_told` of `specs/Told`), or says that they tell
+//! none. Whether it is accepted, and its module the one that it was raised from, is for its caller
+//! to test.
 #![tactic(auto)]
 
-mod laws;
+mod whole;
 
-pub use laws::bodies_are_told;
+pub use whole::raise_module;

@@ -1,0 +1,2 @@
+-- What the contracts inside the crate say.
+pub mod Ends
