@@ -107,10 +107,10 @@ module _ (at : ℕ → Seen) (P : ℕ → Type 0) (manager : ℕ → Manager) (m
   regions : regions_named 0 final.cells ≡ Some (length final.regions)
   regions = (numbered_where_few at P most start h.spreads h.here few).1
 
-  many : length final.order ≡ length final.cells
+  pub many : length final.order ≡ length final.cells
   many = (numbered_where_few at P most start h.spreads h.here few).2
 
-  met : AllMet P final
+  pub met : AllMet P final
   met = (numbered_where_few at P most start h.spreads h.here few).3
 
   stays : Stays at final × Longer begin.order final.order
@@ -119,10 +119,10 @@ module _ (at : ℕ → Seen) (P : ℕ → Type 0) (manager : ℕ → Manager) (m
       none_there : (k : ℕ) (x : CargoCell) → slice_get [] k ≡ Some x → {X : Type 0} → X
       none_there k x f = cc
 
-  start_there : slice_get final.order 0 ≡ Some start
+  pub start_there : slice_get final.order 0 ≡ Some start
   start_there = stays.1.there 0 start refl
 
-  object_at : (k : ℕ) (x : CargoCell) → slice_get final.cells k ≡ Some x
+  pub object_at : (k : ℕ) (x : CargoCell) → slice_get final.cells k ≡ Some x
       → (a : ℕ) × (slice_get final.order k ≡ Some a) × P a × (x ≡ numbered final.order final.regions (at a))
   object_at k x e =
       let l = cell_within final.cells k x e in
@@ -134,7 +134,7 @@ module _ (at : ℕ → Seen) (P : ℕ → Type 0) (manager : ℕ → Manager) (m
       )
 
   -- the same where the object is known
-  object_is : (k a : ℕ) (x : CargoCell) → slice_get final.order k ≡ Some a → slice_get final.cells k ≡ Some x
+  pub object_is : (k a : ℕ) (x : CargoCell) → slice_get final.order k ≡ Some a → slice_get final.cells k ≡ Some x
       → x ≡ numbered final.order final.regions (at a)
   object_is k a x e f = stays.0.cells k a x final.order final.regions e f (longer_same final.order) (longer_same final.regions)
 
@@ -166,7 +166,7 @@ module _ (at : ℕ → Seen) (P : ℕ → Type 0) (manager : ℕ → Manager) (m
       let x = label_there final.cells k Frozen l in
       frozen_back final.regions (at a).label (sym (ap (λ (z : CargoCell). z.label) (object_is k a x.0 e x.1)) ∙ x.2)
 
-  label_told : (k a : ℕ) → slice_get final.order k ≡ Some a → label_of final.cells k ≡ Some (new_label final.regions (at a).label)
+  pub label_told : (k a : ℕ) → slice_get final.order k ≡ Some a → label_of final.cells k ≡ Some (new_label final.regions (at a).label)
   label_told k a e =
       let l = slice_get_within final.order k a e in
       let x = there_is final.cells k (omega (arith, l, many)) in

@@ -1,13 +1,11 @@
 -- A state in which a behaviour begins, written out.
-use Rattle.std.proofs.Common.{◌≡◌, refl, List, [], ◌∷◌, Option, None, pos}
+use Rattle.std.proofs.Common.{◌≡◌, refl, List, [], ◌∷◌, None, pos}
 use Rattle.rg_base.specs.declared.words.Cap.TheVariants.{Mut}
-use Rattle.rg_base.specs.declared.words.Manager.{Manager}
 use Rattle.rg_base.specs.declared.words.Manager.TheVariants.{Arena, Count, Trace}
 use Rattle.rg_base.specs.declared.object.Label.TheVariants.{Region, Frozen}
-use Rattle.rg_base.specs.declared.object.Seen.{Seen}
 use Rattle.rg_base.specs.declared.value.Val.TheVariants.{Nil, Int, Obj}
 use Rattle.rg_tree.specs.Tree.{Method, stmt, collect, empty as none, then as next}
-use Rattle.rg_rules.specs.Items.{Item, Do, EndAt, Back}
+use Rattle.rg_rules.specs.Items.{Do, EndAt, Back}
 use Rattle.rg_cown.specs.Cargo.{CargoList}
 use Rattle.rg_opening.specs.declared.given.Given.{Given}
 use Rattle.rg_opening.specs.declared.given.Given.TheVariants.{Start, Held}
