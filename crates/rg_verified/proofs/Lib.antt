@@ -1,0 +1,16 @@
+-- Lemmas on the programs that raise a module.
+mod Alike
+mod Back
+mod BodyCode
+mod Endings
+mod Exits
+mod Fits
+mod Found
+mod Levels
+mod Names
+mod Raised
+mod SameCallees
+mod Tables
+mod ToldBounded
+mod TreeNumbered
+mod Written
