@@ -1,8 +1,9 @@
 #!/usr/bin/env bash
 # Refuses each call for memory of a run in turn (bench/refuse.c, preloaded). The run must be the right one all the same, or end
 # with status 8: then its output is the first whole lines of the right one, and its notes are the first whole lines of the right
-# ones with `out of memory` behind them. Without a file: all programs of examples/ with `--every 1 --report`, `bulk 300`, and
-# each source that examples/rows.txt gives to `slide`, and every_second.rg, by `run` and `slide` with and without a report.
+# ones with `out of memory` behind them. Without a file: all programs of examples/ with `--every 1 --report`, `bulk 300`,
+# `pack` of each program of examples/, and each source that examples/rows.txt gives to `slide`, and every_second.rg, by `run`
+# and `slide` with and without a report.
 # It needs a C compiler, and isn't a part of the gate. Usage: bench/memory.sh [FILE [OPTION..]]
 set -eu
 words=("$@")
@@ -58,6 +59,7 @@ REPORTS = [], ["--report"], ["--every", "1", "--report"]
 runs = [["run", *words]] if words else [
     *(["run", str(path), "--every", "1", "--report"] for path in sorted(examples.glob("*.rg"))),
     ["bulk", "300"],
+    *(["pack", str(path)] for path in sorted(examples.glob("*.rg"))),
     *([command, path, *report] for path in slid() for command in ("run", "slide") for report in REPORTS),
 ]
 total = 0
