@@ -65,7 +65,8 @@ module _ (shapes : List Shape) (heads : List Head) (most : length shapes ≤ CLA
   pub callees-not : may_follow shapes before (place_of before next h.class) h ≡ false → are_ordered shapes 0 0 heads ≡ false
   callees-not stops =
       let k = place_of before next h.class in
-      sym s.ordered ∙ ap (are_ordered shapes before next) rest ∙ ap (λ (b : Truth). b && are_ordered shapes h.class (suc k) (drop (i + 1) heads)) stops
+      sym s.ordered ∙ ap (are_ordered shapes before next) rest
+      ∙ ap (λ (b : Truth). b && are_ordered shapes h.class (suc k) (drop (i + 1) heads)) stops
 
   module _ (yes-follows : may_follow shapes before (place_of before next h.class) h ≡ true) where
     -- it is of a class that is there, and has a number in it
@@ -83,7 +84,8 @@ module _ (shapes : List Shape) (heads : List Head) (most : length shapes ≤ CLA
     pub callees-place : place_of before next h.class < 64
     callees-place = bounds.2
 
-    pub callees-more : (more : List Callee) → more ≡ done ++ record { number = length done; place = place_of before next h.class; result = h.result } ∷ []
+    pub callees-more : (more : List Callee)
+        → more ≡ done ++ record { number = length done; place = place_of before next h.class; result = h.result } ∷ []
         → CalleesSoFar shapes heads more (i + 1) h.class (place_of before next h.class + 1)
     callees-more more is =
         let k = place_of before next h.class in

@@ -1,6 +1,7 @@
 //! Fields, parameters and methods of a raised program, as rows (docs/architecture.md, "Modules").
 
-ghost use Rattle.std.specs.Prelude.{◌≡◌, ◌+◌, ◌<◌, ◌^◌, ℕ, List, ◌++◌, length, IfOk, OnOk, option_map};
+ghost use Rattle.std.specs.Prelude.{◌≡◌, ◌+◌, ◌<◌, ◌^◌, ℕ, List, ◌++◌, length, IfOk, OnOk};
+ghost use Rattle.std.specs.Prelude.{option_map};
 ghost use Rattle.rg_tree.specs.Tree as tree;
 ghost use Rattle.rg_tree.specs.Rows.RowTrees.{type_of, param_at, member_at, member_of};
 ghost use Rattle.rg_tree.specs.Rows.RowsExist.{IsTypeIn, IsParamNumber, IsMemberNumber, IsMemberIn};

@@ -1,5 +1,6 @@
 -- Modules that some bytes spell: an instruction that is no mark has no map, and what is compared tells the rest.
-use Rattle.std.proofs.Common.{◌≡◌, ◌<◌, ℕ, zero, suc, Bool, true, false, List, [], ◌∷◌, length, zip, Some, slice_get, refl, sym, ap, subst, ◌∙◌, arith}
+use Rattle.std.proofs.Common.{◌≡◌, ◌<◌, ℕ, zero, suc, Bool, true, false, List, [], ◌∷◌, length, zip, Some, slice_get, refl, sym, ap, subst, ◌∙◌}
+use Rattle.std.proofs.Common.{arith}
 use Rattle.std.specs.List.{AllByRecursion}
 use Rattle.rg_base.specs.declared.ty.Ty.{Ty}
 use Rattle.rg_code.specs.declared.op.Op.{Op}

@@ -55,7 +55,8 @@ named-length (h ∷ hs) [] e = absurd (omega (arith, e))
 named-length (h ∷ hs) (b ∷ bs) e = ap (λ (n : ℕ). suc n) (named-length hs bs (omega (arith, e)))
 
 ends-told : (g : Given) (d : ℕ) (hs : List Head) (x : Bodies) (o : Option (RaisedBody × ℕ))
-    → ◌>>=◌ o (λ (main : RaisedBody × ℕ). ◌>>=◌ (methods_told g d hs main.1) (λ (ms : List RaisedBody). Some (record { main = main.0; methods = ms })))
+    → ◌>>=◌ o (λ (main : RaisedBody × ℕ). ◌>>=◌ (methods_told g d hs main.1)
+    (λ (ms : List RaisedBody). Some (record { main = main.0; methods = ms })))
     ≡ Some x → length x.methods ≡ length hs
 ends-told g d hs x None e = absurd cc
 ends-told g d hs x (Some main) e =

@@ -13,8 +13,8 @@ use Rattle.rg_verify.specs.Naming.{class_name, field_name, method_name, variable
 
 -- Limits
 
--- the canonical text of a program passes no limit, but for the one on the bytes of a source: it is cut into tokens, and these spell a program,
--- which is the same up to lines and to how a negative number is written
+-- The canonical text of a program passes no limit, but for the one on the bytes of a source: it is cut into tokens, and these spell some program.
+-- Nothing here ties that one to the program.
 pub record IsWithinLimits (t : Tree) : Type 0 where
   pub tokens : List Token
   pub read : Tree

@@ -8,7 +8,8 @@ pub fn same_module()
     ensures { SameModule }
 {}
 
-/// Programs that are the same up to lines and have the same module are the same but for those lines.
+/// Programs that are the same up to lines and have the same module are the same but for those
+/// lines.
 pub fn module_tells_lines()
     ensures { ModuleTellsLines }
 {}

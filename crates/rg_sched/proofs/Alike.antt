@@ -174,7 +174,8 @@ alike_to classes s one other p q (suc k) =
     last : first ≡ second → do_all classes s.behaviours (k ∷ []) one first ≡ do_all classes s.behaviours (k ∷ []) other second
     last same = by (slice_get s.behaviours k) refl same
 
-pub all_alike : (classes : List Class) (s : Setting) (w u : World) → Stands classes s w → Stands classes s u → AllEnded s w → AllEnded s u → w.told ≡ u.told
+pub all_alike : (classes : List Class) (s : Setting) (w u : World) → Stands classes s w → Stands classes s u → AllEnded s w → AllEnded s u →
+    w.told ≡ u.told
 all_alike classes s w u h g p q =
     in_plan_order classes s w h p
     ∙ alike_to classes s w.turns u.turns (over_in_order classes s w h p) (over_in_order classes s u g q) (length s.behaviours)

@@ -1,5 +1,6 @@
 -- The lowest-numbered behaviour that hasn't ended can begin or make a step.
-use Rattle.std.proofs.Common.{◌≡◌, ℕ, zero, ◌<◌, ◌⊎◌, inl, inr, Bool, true, false, not, ◌||◌, List, [], ◌∷◌, ◌++◌, length, get_or, set, Option, Some, None}
+use Rattle.std.proofs.Common.{◌≡◌, ℕ, zero, ◌<◌, ◌⊎◌, inl, inr, Bool, true, false, not, ◌||◌, List, [], ◌∷◌, ◌++◌, length, get_or, set, Option, Some}
+use Rattle.std.proofs.Common.{None}
 use Rattle.std.proofs.Common.{slice_get, suc, refl, sym, ap, ◌∙◌, subst, arith}
 use Rattle.std.specs.Prelude.{slice_index, if◌then◌else◌}
 use Rattle.std.specs.List.{range_with_len}
@@ -20,7 +21,8 @@ there_is (x ∷ xs) zero l e = cc
 there_is (x ∷ xs) (suc i) l e = there_is xs i (omega (arith, l)) e
 
 -- where each lower-numbered one has ended, a behaviour may begin
-may : (bs : List Behaviour) (runs : List (Option Ran)) (i : ℕ) → ((k : ℕ) → k < i → has_ended (get_or runs k None) ≡ true) → may_begin bs runs i ≡ true
+may : (bs : List Behaviour) (runs : List (Option Ran)) (i : ℕ) → ((k : ℕ) → k < i → has_ended (get_or runs k None) ≡ true) →
+    may_begin bs runs i ≡ true
 may bs runs i ended =
     let test : ℕ → Bool = λ k. not (share bs i k) || has_ended (get_or runs k None) in
     list_all-from_AllPass test (range_with_len 0 i)

@@ -91,7 +91,8 @@ not_same front back n k d a e = by (in_either front back k a)
     by (inr b) = not_in_back front back n d (subst (In back) e b)
 
 -- all numbers below one, each once, may be done in rising order where those that share a cown keep theirs
-pub sorted : (classes : List Class) (bs : List Behaviour) (steps : List ℕ) (t : Told) (n : ℕ) (xs : List ℕ) → Distinct xs → ((i : ℕ) → In xs i → i < n)
+pub sorted : (classes : List Class) (bs : List Behaviour) (steps : List ℕ) (t : Told) (n : ℕ) (xs : List ℕ) → Distinct xs →
+    ((i : ℕ) → In xs i → i < n)
     → ((i : ℕ) → i < n → In xs i) → InOrder bs xs → do_all classes bs xs steps t ≡ do_all classes bs (numbers_below n) steps t
 sorted classes bs steps t zero [] d below all order = refl
 sorted classes bs steps t zero (x ∷ xs) d below all order = absurd (omega (arith, below x (inl refl)))
@@ -133,7 +134,8 @@ push_append : (front : List ℕ) (i : ℕ) (xs : List ℕ) → front ++ i ∷ xs
 push_append [] i xs = refl
 push_append (x ∷ front) i xs = ap (λ ys. x ∷ ys) (push_append front i xs)
 
-order_of : (classes : List Class) (s : Setting) (w : World) → WorldOf classes s w → (front xs : List ℕ) → w.began ≡ front ++ xs → InOrder s.behaviours xs
+order_of : (classes : List Class) (s : Setting) (w : World) → WorldOf classes s w → (front xs : List ℕ) → w.began ≡ front ++ xs →
+    InOrder s.behaviours xs
 order_of classes s w h front [] e = tt
 order_of classes s w h front (i ∷ xs) e = (
   λ k a l sh. not_both front xs i k (subst Distinct e h.once) (h.behind front xs i k e l sh) a,

@@ -1,5 +1,6 @@
 -- Each content is at rest or in one running behaviour.
-use Rattle.std.proofs.Common.{◌≡◌, ◌≢◌, ℕ, zero, suc, ◌<◌, ◌⊎◌, inl, inr, Bool, true, false, List, [], ◌∷◌, length, map, get_or, set, Option, Some, None}
+use Rattle.std.proofs.Common.{◌≡◌, ◌≢◌, ℕ, zero, suc, ◌<◌, ◌⊎◌, inl, inr, Bool, true, false, List, [], ◌∷◌, length, map, get_or, set, Option, Some}
+use Rattle.std.proofs.Common.{None}
 use Rattle.std.proofs.Common.{◌||◌, nat_eq, slice_get, refl, sym, ap, ◌∙◌, subst, arith, replicate}
 use Rattle.std.specs.Prelude.{if◌then◌else◌}
 use Rattle.std.specs.List.{list_any}
@@ -22,7 +23,8 @@ use Rattle.rg_sched.specs.Atomic.{Told, tell, World}
 use Rattle.rg_sched.specs.Events.{may_begin, begins, one_more, steps_on, event_by, event_of, event, after, first_world, world_after}
 use Rattle.rg_sched.specs.Laws.{NoneTwice, IsRunning, Separate}
 use Rattle.rg_sched.proofs.Lists.{get_set, get_put}
-use Rattle.rg_sched.proofs.Worlds.{not_two, some_is, no_some, none-replicate, share_by, Stands, in_or_not, has_begun, either_less, event-keeps, first-stands}
+use Rattle.rg_sched.proofs.Worlds.{not_two, some_is, no_some, none-replicate, share_by, Stands, in_or_not, has_begun, either_less, event-keeps}
+use Rattle.rg_sched.proofs.Worlds.{first-stands}
 
 -- What is put
 
@@ -46,7 +48,8 @@ rest-put : (P : Content → Type 0) (xs : List Content) → AllPut P xs → AllP
 rest-put P [] h = h
 rest-put P (x ∷ xs) h = h.1
 
-put-there : (P : Content → Type 0) (ns : List ℕ) (xs cs : List Content) (m : ℕ) → AllPut P xs → In ns m → m < length cs → P (get_or (put ns xs cs) m Empty)
+put-there : (P : Content → Type 0) (ns : List ℕ) (xs cs : List Content) (m : ℕ) → AllPut P xs → In ns m → m < length cs →
+    P (get_or (put ns xs cs) m Empty)
 put-there P [] xs cs m h a l = absurd a
 put-there P (n ∷ ns) xs cs m h a l =
     by (in_or_not ns m) a (λ b. put-there P ns (rest_of xs) (set cs n (first_of xs)) m (rest-put P xs h) b (subst (λ k. m < k) (sym (length-set cs n (first_of xs))) l))

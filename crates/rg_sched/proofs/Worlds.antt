@@ -171,7 +171,8 @@ begun classes s w i b front back h there is =
     (subst (λ n. i < n) (sym (length-replicate (length s.behaviours) none)) (slice_get_within s.behaviours i b there))
     (not_in_back front back i (subst Distinct is h.world.once))
 
-pub has_begun : (classes : List Class) (s : Setting) (w : World) (i : ℕ) (r : Ran) → Stands classes s w → get_or w.told.runs i None ≡ Some r → In w.began i
+pub has_begun : (classes : List Class) (s : Setting) (w : World) (i : ℕ) (r : Ran) → Stands classes s w → get_or w.told.runs i None ≡ Some r →
+    In w.began i
 has_begun classes s w i r h told = by (in_or_not w.began i)
   where
     by : In w.began i ⊎ (In w.began i → ⊥) → In w.began i
@@ -184,7 +185,8 @@ is_not_begun classes s w i h none a =
     no_some (get_or w.told.runs i None) (run_at classes s.behaviours p.front w.turns b.0 (slice_index w.turns i) (at_first s)) none
     (begun classes s w i b.0 p.front p.back h b.1 p.is)
 
-pub ended-begun : (classes : List Class) (s : Setting) (w : World) (k : ℕ) → Stands classes s w → has_ended (get_or w.told.runs k None) ≡ true → In w.began k
+pub ended-begun : (classes : List Class) (s : Setting) (w : World) (k : ℕ) → Stands classes s w → has_ended (get_or w.told.runs k None) ≡ true →
+    In w.began k
 ended-begun classes s w k h e = by (get_or w.told.runs k None) refl
   where
     by : (o : Option Ran) → get_or w.told.runs k None ≡ o → In w.began k
@@ -333,7 +335,8 @@ step-keeps classes s w i b r twice h there told over = record {
 
 -- Each event keeps it
 
-pub event-keeps : (classes : List Class) (s : Setting) (w : World) (i : ℕ) → NoneTwice s → Stands classes s w → Stands classes s (event classes s.behaviours i w)
+pub event-keeps : (classes : List Class) (s : Setting) (w : World) (i : ℕ) → NoneTwice s → Stands classes s w →
+    Stands classes s (event classes s.behaviours i w)
 event-keeps classes s w i twice h = by (slice_get s.behaviours i) (get_or w.told.runs i None) refl refl
   where
     if_may : (t : Bool) (b : Behaviour) → may_begin s.behaviours w.told.runs i ≡ t → slice_get s.behaviours i ≡ Some b → get_or w.told.runs i None ≡ None
