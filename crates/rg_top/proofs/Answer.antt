@@ -4,17 +4,19 @@ use Rattle.std.proofs.Common.{sym, ◌∙◌, ap, subst, arith}
 use Rattle.std.specs.Bool.{OnTrue, OnFalse}
 use Rattle.std.proofs.lemmas.List.{length-replicate}
 use Rattle.rg_base.specs.declared.limits.TheConstants.{SOURCE_BYTES}
+use Rattle.rg_top.specs.declared.limits.TheConstants.{MODULE_BYTES}
 use Rattle.rg_io.specs.Content.{Rose}
 use Rattle.rg_io.specs.Files.{Told, HasLongFile}
 use Rattle.rg_io.proofs.Content.{Rose-since}
 use Rattle.rg_run.specs.Machine.{Kept, IsFresh, numbers_of}
 use Rattle.rg_top.specs.declared.status.Status.{Status}
 use Rattle.rg_top.specs.declared.status.Status.TheVariants as status
-use Rattle.rg_top.specs.Commands.{Command, command, Origin, in_file, origin_of, reads_input, may_read, opens_file, may_open}
+use Rattle.rg_top.specs.Commands.{Command, command, Origin, in_file, in_module, origin_of, reads_input, may_read, opens_file, may_open}
 use Rattle.rg_top.specs.Statuses.{is_answer, is_refusal, is_cut_off, is_from_outside}
 use Rattle.rg_top.specs.Expected.{HasSource, ExpectsStatus}
 use Rattle.rg_top.specs.Headline.{ForInput, ForSource, Exactly, ExactlyWhere, Answers, Untouched, CutOffAt, CutAtInput}
 use Rattle.rg_top.specs.Headline.{IsExpected, MayTell}
+use Rattle.rg_top.specs.Laws.{OneAnswer}
 use Rattle.rg_top.specs.Inner.Settled.{Settles, Unread, source_fault, memory, SettlesCommand, Refuses, Caused, Tunes, Chooses, Becomes}
 use Rattle.rg_top.proofs.Meaning.{expects-one, refusal-any}
 use Rattle.rg_top.proofs.Settled.{answers-of, cut-of, status-of}
@@ -29,6 +31,11 @@ long-list n = (replicate (suc n) 0, omega (arith, length-replicate {A = ℕ} (su
 pub long-refuses : (told : Option Told) (file : List ℕ) → HasLongFile told file SOURCE_BYTES → Refuses told (in_file file) status.Long
 long-refuses None file h = let l = long-list SOURCE_BYTES in (l.0, tt, l.1)
 long-refuses (Some t) file h = h
+
+-- and a module that is too long is read as some module that is
+pub long-module : (told : Option Told) (file : List ℕ) → HasLongFile told file MODULE_BYTES → Refuses told (in_module file) status.Long
+long-module None file h = let l = long-list MODULE_BYTES in (l.0, tt, l.1)
+long-module (Some t) file h = h
 
 -- where no program came, nothing is done
 pub refuses-settles : (told : Option Told) (c : Command) (s : Status) (left old : Option (List ℕ)) (m : Kept) (still : Type 0) →
@@ -138,7 +145,8 @@ answer-inside status.Memory h = cc
 answer-inside status.Long h = refl
 
 -- a status comes exactly where it is expected: it is what was given, or that was cut off
-module _ (told : Option Told) (left : Option (List ℕ)) (words : List (List ℕ)) (given s : Status) (answers : is_answer s ≡ true) where
+module _ (law : OneAnswer) (told : Option Told) (left : Option (List ℕ)) (words : List (List ℕ)) (given s : Status)
+    (answers : is_answer s ≡ true) where
   outside-exactly : (behind : Option (List ℕ)) → is_from_outside given ≡ true → ExactlyWhere told behind words given s
   outside-exactly behind o = record {
     only = λ e. let n : is_from_outside given ≡ false = ap is_from_outside e ∙ answer-inside s answers in absurd (cc);
@@ -152,7 +160,7 @@ module _ (told : Option Told) (left : Option (List ℕ)) (words : List (List ℕ
     always = λ d again all.
         let same : d ≡ c = cc in
         let Q : Command → Type 0 = λ x. HasSource told (origin_of x) source → ExpectsStatus x source input s in
-        inl (expects-one c source input given s expects (subst Q same (λ h. all source input h is) has));
+        inl (expects-one law c source input given s expects (subst Q same (λ h. all source input h is) has));
   }
   exactly-where (inr o) = outside-exactly left o
 
@@ -168,7 +176,7 @@ module _ (told : Option Told) (left : Option (List ℕ)) (words : List (List ℕ
         let same : d ≡ c = cc in
         let Q : Command → Type 0 = λ x. HasSource told (origin_of x) source → ExpectsStatus x source bytes s in
         let there = subst Q same (λ h. all source bytes h refl) has in
-        inl (expects-one c source input given s expects (refusal-any c source bytes input s refuses there));
+        inl (expects-one law c source input given s expects (refusal-any c source bytes input s refuses there));
   }
   exactly-refused refuses bytes (inr o) = outside-exactly (Some bytes) o
 
@@ -255,19 +263,21 @@ module _ {told : Option Told} {left : Option (List ℕ)} {words : List (List ℕ
       file-input told left words a.asked given old new m still a.command_is (given-is given answer a.told_is (λ o. cc) (λ o. cc) ∙ e) a.settles
 
   -- each answer to a source comes exactly where it is expected
-  pub answer-exactly : (s : Status) → is_answer s ≡ true → ExactlyWhere told left words answer s
-  answer-exactly s i =
+  pub answer-exactly : OneAnswer → (s : Status) → is_answer s ≡ true → ExactlyWhere told left words answer s
+  answer-exactly law s i =
       told-status (λ x. ExactlyWhere told left words x s) given answer
-      (exactly-where told left words given s i (file-status told left words a.asked given old new m still a.command_is a.settles))
-      (outside-exactly told left words status.OutputFault s i left refl) (outside-exactly told left words status.Memory s i left refl) a.told_is
+      (exactly-where law told left words given s i (file-status told left words a.asked given old new m still a.command_is a.settles))
+      (outside-exactly law told left words status.OutputFault s i left refl) (outside-exactly law told left words status.Memory s i left refl)
+      a.told_is
 
   -- and a refusal whatever the input has
-  pub answer-refused : (s : Status) → is_answer s ≡ true → is_refusal s ≡ true → (bytes : List ℕ) → ExactlyWhere told (Some bytes) words answer s
-  answer-refused s i r bytes =
+  pub answer-refused : OneAnswer → (s : Status) → is_answer s ≡ true → is_refusal s ≡ true → (bytes : List ℕ) →
+      ExactlyWhere told (Some bytes) words answer s
+  answer-refused law s i r bytes =
       told-status (λ x. ExactlyWhere told (Some bytes) words x s) given answer
-      (exactly-refused told left words given s i r bytes (file-status told left words a.asked given old new m still a.command_is a.settles))
-      (outside-exactly told left words status.OutputFault s i (Some bytes) refl)
-      (outside-exactly told left words status.Memory s i (Some bytes) refl) a.told_is
+      (exactly-refused law told left words given s i r bytes (file-status told left words a.asked given old new m still a.command_is a.settles))
+      (outside-exactly law told left words status.OutputFault s i (Some bytes) refl)
+      (outside-exactly law told left words status.Memory s i (Some bytes) refl) a.told_is
 
   -- where no count rose, the answer is the expected one, or there was no memory
   pub answer-complete : (F I O N : Type 0) → (answer ≡ status.SourceFault → F) → (answer ≡ status.InputFault → I) →

@@ -1,6 +1,6 @@
 -- Words of the command line, read as commands.
 use Rattle.std.proofs.Common.{◌≡◌, ℕ, true, false, List, [], ◌∷◌, Some, None, codes, refl}
-use Rattle.rg_top.specs.Commands.{run, plain, command}
+use Rattle.rg_top.specs.Commands.{run, plain, exec, command}
 
 -- `run a`, and what stands behind it
 abbrev run_a : List (List ℕ) → List (List ℕ)
@@ -74,3 +74,23 @@ no_report_of_plain = refl
 
 no_report_of_bulk : command (codes "bulk" ∷ codes "5" ∷ codes "--report" ∷ []) ≡ None
 no_report_of_bulk = refl
+
+-- `exec` has them too
+abbrev exec_a : List (List ℕ) → List (List ℕ)
+exec_a options = codes "exec" ∷ codes "a" ∷ options
+
+exec_without_options : command (exec_a []) ≡ Some (exec (codes "a") 10000000 1000 false)
+exec_without_options = refl
+
+every_option_of_exec : command (exec_a (codes "--every" ∷ codes "0" ∷ codes "--report" ∷ codes "--steps" ∷ codes "7" ∷ []))
+    ≡ Some (exec (codes "a") 7 0 true)
+every_option_of_exec = refl
+
+steps_of_exec_given_twice : command (exec_a (codes "--steps" ∷ codes "5" ∷ codes "--steps" ∷ codes "6" ∷ [])) ≡ None
+steps_of_exec_given_twice = refl
+
+exec_without_a_file : command (codes "exec" ∷ []) ≡ None
+exec_without_a_file = refl
+
+exec_of_a_word_with_a_dash : command (codes "exec" ∷ codes "-a" ∷ []) ≡ None
+exec_of_a_word_with_a_dash = refl

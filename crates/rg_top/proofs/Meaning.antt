@@ -13,15 +13,21 @@ use Rattle.rg_tree.specs.Stuck.{Stuck, fault_at}
 use Rattle.rg_tree.proofs.Unique.{one-tree}
 use Rattle.rg_tree.proofs.Stopping.{spelt-not_stuck, Stops-unique}
 use Rattle.rg_rules.specs.Names.{FewNames}
-use Rattle.rg_rules.specs.Acceptance.{first_fault}
-use Rattle.rg_rules.specs.Runs.{Ending, Running, Done, Stopped}
+use Rattle.rg_rules.specs.Acceptance.{Accepted, first_fault}
+use Rattle.rg_rules.specs.Runs.{Ending, Running, Done, Stopped, Ran}
 use Rattle.rg_rules.specs.Runs as rules
 use Rattle.rg_check.specs.Laws.{SpeltHasFewNames}
+use Rattle.rg_lines.specs.Laws.{SameRuns}
+use Rattle.rg_module.specs.Parts.{Parts}
+use Rattle.rg_module.specs.Laws.{SpellsOneModule}
+use Rattle.rg_raised.specs.Raises.{Raises, RaisedAlike}
 use Rattle.rg_top.specs.declared.status.Status.{Status}
-use Rattle.rg_top.specs.Commands.{Command, run, plain, fmt, check, code, pack, bulk, Origin, in_file, generated, origin_of}
+use Rattle.rg_base.specs.Text.{text}
+use Rattle.rg_top.specs.Commands.{Command, run, plain, fmt, check, code, pack, bulk, exec, origin_of}
 use Rattle.rg_top.specs.Statuses.{is_refusal}
-use Rattle.rg_top.specs.Expected.{Meaning, too_long, faulty, spelt, IsStuck, SpellsTree, Means, MeansFrom, Answer, status_of}
-use Rattle.rg_top.specs.Expected.{run_answer, unless_fault, expected, ExpectsStatus}
+use Rattle.rg_top.specs.Expected.{Meaning, too_long, faulty, spelt, IsStuck, SpellsTree, Means, HasModule, IsNoProgram, MeansModule}
+use Rattle.rg_top.specs.Expected.{Answer, status_of, run_answer, refused, unless_fault, expected, ExpectsStatus}
+use Rattle.rg_top.specs.Laws.{OneAnswer}
 
 -- a program that spells the source's tokens has few names
 pub few-names : (source : List ℕ) (ts : List Token) (r : Result Tables Stop) → SpeltHasFewNames
@@ -67,10 +73,57 @@ means-one source (spelt t) too_long h g = absurd (omega arith)
 means-one source (spelt t) (faulty f) h g = absurd (fault-no_tree source f t g.1 h.1)
 means-one source (spelt t) (spelt u) h g = ap spelt (tree-one source t u h.1 g.1)
 
--- and so does what comes from a file, or is generated
-from-one : (o : Origin) (source : List ℕ) (m k : Meaning) → MeansFrom o source m → MeansFrom o source k → m ≡ k
-from-one (in_file file) source m k h g = means-one source m k h g
-from-one (generated size) source m k h g = h ∙ sym g
+-- what an accepted program answers
+run-accepted : (t : Tree) (input : List ℕ) (n : ℕ) → Accepted t → unless_fault (first_fault t) (run_answer t input n) ≡ run_answer t input n
+run-accepted t input n accepted = rw accepted refl
+
+-- a module without a program has one fault
+no-program-one : SpellsOneModule → (bytes : List ℕ) (e f : Fault) → IsNoProgram bytes e → IsNoProgram bytes f → e ≡ f
+no-program-one one bytes e f (inl h) (inl k) = h.0 ∙ sym k.0
+no-program-one one bytes e f (inl h) (inr k) = absurd (h.1 k.1 k.2)
+no-program-one one bytes e f (inr h) (inl k) = absurd (k.1 h.1 h.2)
+no-program-one one bytes e f (inr h) (inr k) = h.0 ∙ sym k.0
+
+-- and none raises it
+no-program : SpellsOneModule → (bytes : List ℕ) (f : Fault) (m : Parts) (t : Tree) → IsNoProgram bytes f → HasModule bytes m → Raises m t → ⊥
+no-program one bytes f m t (inl h) has raises = h.1 m has
+no-program one bytes f m t (inr h) has raises =
+    let P : Parts → Type 0 = λ q. Raises q t in h.3 t (subst P (one bytes m h.1 has h.2) raises)
+
+-- programs that raise one module have the same run
+raised-one : RaisedAlike → SameRuns → (m : Parts) (t u : Tree) (input : List ℕ) (n : ℕ) → Raises m t → Raises m u →
+    unless_fault (first_fault t) (run_answer t input n) ≡ unless_fault (first_fault u) (run_answer u input n)
+raised-one alike runs m t u input n h k =
+    let answer : Ran → Answer = λ r. record { status = status_of r.ending; text = text r.state.output } in
+    run-accepted t input n h.accepted ∙ ap answer (runs t u (alike m t u h k) input n) ∙ sym (run-accepted u input n k.accepted)
+
+-- a module is answered one thing
+module-one : RaisedAlike → SameRuns → SpellsOneModule → (file : List ℕ) (n every : ℕ) (report : Bool) (p : EndNumbers) (bytes input : List ℕ)
+    (m k : Meaning) → MeansModule bytes m → MeansModule bytes k →
+    expected (exec file n every report) p input m ≡ expected (exec file n every report) p input k
+module-one alike runs one file n every report p bytes input too_long too_long h g = refl
+module-one alike runs one file n every report p bytes input too_long (faulty f) h g = absurd (omega arith)
+module-one alike runs one file n every report p bytes input too_long (spelt u) h g = absurd (omega arith)
+module-one alike runs one file n every report p bytes input (faulty e) too_long h g = absurd (omega arith)
+module-one alike runs one file n every report p bytes input (faulty e) (faulty f) h g = ap refused (no-program-one one bytes e f h.1 g.1)
+module-one alike runs one file n every report p bytes input (faulty e) (spelt u) h g = absurd (no-program one bytes e g.1 u h.1 g.2 g.3)
+module-one alike runs one file n every report p bytes input (spelt t) too_long h g = absurd (omega arith)
+module-one alike runs one file n every report p bytes input (spelt t) (faulty f) h g = absurd (no-program one bytes f h.1 t g.1 h.2 h.3)
+module-one alike runs one file n every report p bytes input (spelt t) (spelt u) h g =
+    let P : Parts → Type 0 = λ q. Raises q u in
+    raised-one alike runs h.1 t u input n h.3 (subst P (one bytes g.1 h.1 g.2 h.2) g.3)
+
+-- a command answers one thing to its bytes
+pub one-answer : RaisedAlike → SameRuns → SpellsOneModule → OneAnswer
+one-answer alike runs one (run slides file n every report) p source input m k h g =
+    ap (expected (run slides file n every report) p input) (means-one source m k h g)
+one-answer alike runs one (plain file n) p source input m k h g = ap (expected (plain file n) p input) (means-one source m k h g)
+one-answer alike runs one (fmt file) p source input m k h g = ap (expected (fmt file) p input) (means-one source m k h g)
+one-answer alike runs one (check file) p source input m k h g = ap (expected (check file) p input) (means-one source m k h g)
+one-answer alike runs one (code file) p source input m k h g = ap (expected (code file) p input) (means-one source m k h g)
+one-answer alike runs one (pack file) p source input m k h g = ap (expected (pack file) p input) (means-one source m k h g)
+one-answer alike runs one (bulk size) p source input m k h g = ap (expected (bulk size) p input) (h ∙ sym g)
+one-answer alike runs one (exec file n every report) p source input m k h g = module-one alike runs one file n every report p source input m k h g
 
 -- the status doesn't depend on the machine's numbers
 status-any : (c : Command) (p q : EndNumbers) (input : List ℕ) (m : Meaning) → (expected c p input m).status ≡ (expected c q input m).status
@@ -83,14 +136,16 @@ status-any (check file) p q input (spelt t) = refl
 status-any (code file) p q input (spelt t) = refl
 status-any (pack file) p q input (spelt t) = refl
 status-any (bulk size) p q input (spelt t) = refl
+status-any (exec file n every report) p q input (spelt t) = refl
 
 -- a command answers one status to a source, on one input
-pub expects-one : (c : Command) (source input : List ℕ) (s t : Status) → ExpectsStatus c source input s → ExpectsStatus c source input t → s ≡ t
-expects-one c source input s t h g =
-    let same : h.2.0 ≡ g.2.0 = from-one (origin_of c) source h.2.0 g.2.0 h.2.1 g.2.1 in
+pub expects-one : OneAnswer → (c : Command) (source input : List ℕ) (s t : Status) → ExpectsStatus c source input s → ExpectsStatus c source input t →
+    s ≡ t
+expects-one law c source input s t h g =
+    let same : expected c g.0 input h.2.0 ≡ expected c g.0 input g.2.0 = law c g.0 source input h.2.0 g.2.0 h.2.1 g.2.1 in
     let here : (expected c h.0 input h.2.0).status ≡ s = ap (λ (a : Answer). a.status) h.2.2 in
     let there : (expected c g.0 input g.2.0).status ≡ t = ap (λ (a : Answer). a.status) g.2.2 in
-    sym here ∙ status-any c h.0 g.0 input h.2.0 ∙ ap (λ m. (expected c g.0 input m).status) same ∙ there
+    sym here ∙ status-any c h.0 g.0 input h.2.0 ∙ ap (λ (a : Answer). a.status) same ∙ there
 
 -- a run refuses nothing
 runs-on : (e : Ending) → is_refusal (status_of e) ≡ false
@@ -117,6 +172,7 @@ refusal-expected (check file) p i j (spelt t) s text r e = e
 refusal-expected (code file) p i j (spelt t) s text r e = e
 refusal-expected (pack file) p i j (spelt t) s text r e = e
 refusal-expected (bulk size) p i j (spelt t) s text r e = e
+refusal-expected (exec file n every report) p i j (spelt t) s text r e = refusal-ran t i j n (first_fault t) s text r e
 
 -- a refusal doesn't depend on the input
 pub refusal-any : (c : Command) (source i j : List ℕ) (s : Status) → is_refusal s ≡ true → ExpectsStatus c source i s → ExpectsStatus c source j s

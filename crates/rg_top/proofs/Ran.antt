@@ -25,7 +25,7 @@ use Rattle.rg_run.proofs.Sound.{run-is-sound, stands-shown}
 use Rattle.rg_run.proofs.Run.{wrote-part}
 use Rattle.rg_top.specs.declared.status.Status.{Status}
 use Rattle.rg_top.specs.declared.status.Status.TheVariants as status
-use Rattle.rg_top.specs.Commands.{run, plain, Origin, in_file}
+use Rattle.rg_top.specs.Commands.{run, plain, exec, Origin, in_file, in_module}
 use Rattle.rg_top.specs.Expected.{status_of, spelt, MeansFrom}
 use Rattle.rg_top.specs.Headline.{HasInput, ForInput, Runs, StandsAfter, CutOffAt, AsksAfter}
 use Rattle.rg_top.specs.Inner.Settled.{Caused, status_of_ended, RanWhole, RanBeside, RanFrom, Settles}
@@ -189,6 +189,21 @@ run-settles slides file n every report source left status.InputFault old new m s
 run-settles slides file n every report source left status.OutputFault old new m still h = h
 run-settles slides file n every report source left status.Memory old new m still h = h
 run-settles slides file n every report source left status.Long old new m still h = absurd h
+
+-- and what `exec` has answered, where it comes from a module
+pub exec-settles : (file : List ℕ) (n every : ℕ) (report : Bool) (source : List ℕ) (left : Option (List ℕ)) (s : Status)
+    (old new : Option (List ℕ)) (m : Kept) (still : Type 0) →
+    RanFrom (in_module file) n source left s old new m still → Settles (exec file n every report) source left s old new m still
+exec-settles file n every report source left status.Done old new m still h = h
+exec-settles file n every report source left (status.Refused f) old new m still h = absurd h
+exec-settles file n every report source left status.Usage old new m still h = h
+exec-settles file n every report source left (status.Trap kind line) old new m still h = h
+exec-settles file n every report source left status.Spent old new m still h = h
+exec-settles file n every report source left status.SourceFault old new m still h = h
+exec-settles file n every report source left status.InputFault old new m still h = h
+exec-settles file n every report source left status.OutputFault old new m still h = h
+exec-settles file n every report source left status.Memory old new m still h = h
+exec-settles file n every report source left status.Long old new m still h = absurd h
 
 -- a program that the checker has passed
 pub runs-checked : (origin : Origin) (source : List ℕ) (t u : Tables) → u ≡ t → MeansFrom origin source (spelt (program_of t)) →

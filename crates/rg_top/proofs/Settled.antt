@@ -22,7 +22,7 @@ use Rattle.rg_run.proofs.Sound.{run-is-sound, stands-shown}
 use Rattle.rg_run.proofs.Run.{run-of, wrote-whole, text-part, text-split}
 use Rattle.rg_top.specs.declared.status.Status.{Status}
 use Rattle.rg_top.specs.declared.status.Status.TheVariants as status
-use Rattle.rg_top.specs.Commands.{Command, run, plain, fmt, check, code, pack, bulk, in_file, origin_of, reads_input}
+use Rattle.rg_top.specs.Commands.{Command, run, plain, fmt, check, code, pack, bulk, exec, in_file, in_module, origin_of, reads_input}
 use Rattle.rg_top.specs.Statuses.{is_answer, is_from_outside}
 use Rattle.rg_top.specs.Expected.{too_long, faulty, spelt, MeansFrom, status_of, accepted_text, listed_text, packed_text, text_after}
 use Rattle.rg_top.specs.Expected.{line_behind, run_answer, unless_fault, ExpectsStatus}
@@ -67,6 +67,25 @@ answers-ran : (slides : Bool) (file : List ℕ) (n every : ℕ) (report : Bool) 
     RanWhole (in_file file) n source left s old new m still → ForInput left
     (λ input. Answers (run slides file n every report) source input s old new m still)
 answers-ran slides file n every report source left s old new m still r =
+    let t = program_of r.tables in (
+      r.input,
+      r.input_is,
+      record {
+        meaning = spelt t;
+        means = r.runs.means;
+        text = text_after t r.input n;
+        expects = ran-answer t r.input n s r.runs.accepted r.status_is;
+        wrote = r.wrote;
+        leaves = if-accepted (first_fault t) (RunStands t r.input n m × (NeverAsks t r.input n → still)) (IsFresh m × still) r.runs.accepted
+            ((r.tables, refl, r.stands), r.unread);
+      },
+    )
+
+answers-exec : (file : List ℕ) (n every : ℕ) (report : Bool) (source : List ℕ) (left : Option (List ℕ)) (s : Status)
+    (old new : Option (List ℕ)) (m : Kept) (still : Type 0) →
+    RanWhole (in_module file) n source left s old new m still → ForInput left
+    (λ input. Answers (exec file n every report) source input s old new m still)
+answers-exec file n every report source left s old new m still r =
     let t = program_of r.tables in (
       r.input,
       r.input_is,
@@ -156,6 +175,8 @@ answers-well (pack file) source left old new m still r =
       leaves = r.fresh;
     })
 answers-well (bulk size) source left old new m still r = answers-generated size source left status.Done old new m still r
+answers-well (exec file n every report) source left old new m still r =
+    answers-exec file n every report source left status.Done old new m still r
 
 answers-stops : (c : Command) (source : List ℕ) (left : Option (List ℕ)) (s : Status) (old new : Option (List ℕ)) (m : Kept) (still : Type 0) →
     StopsRun c source left s old new m still → ForInput left (λ input. Answers c source input s old new m still)
@@ -167,6 +188,7 @@ answers-stops (check file) source left s old new m still r = absurd r
 answers-stops (code file) source left s old new m still r = absurd r
 answers-stops (pack file) source left s old new m still r = absurd r
 answers-stops (bulk size) source left s old new m still r = answers-generated size source left s old new m still r
+answers-stops (exec file n every report) source left s old new m still r = answers-exec file n every report source left s old new m still r
 
 -- a source with a fault is refused
 answers-refused : (c : Command) (source input : List ℕ) (f : Fault) (old new : Option (List ℕ)) (m : Kept) (still : Type 0) →
@@ -222,6 +244,7 @@ answers-refused (pack file) source input f old new m still u (inr h) = record {
   leaves = u.0;
 }
 answers-refused (bulk size) source input f old new m still u (inr h) = absurd h
+answers-refused (exec file n every report) source input f old new m still u (inr h) = absurd h
 
 -- what was answered, where nothing cut it off
 pub answers-of : (c : Command) (source : List ℕ) (left : Option (List ℕ)) (s : Status) (old new : Option (List ℕ)) (m : Kept) (still : Type 0) →
@@ -262,6 +285,13 @@ stands-whole t input n m old new accepted shown wrote =
       stands = stands-shown t input r.0 m accepted (subst P (sym r.1.state) shown.shows) (k ∙ sym (r.1.made_steps ∙ from)) shown.told;
       wrote = wrote-whole t input r.0 old new (subst Q (ap (λ s. text s.output) (sym r.1.state)) wrote);
     })
+
+cut-exec : (file : List ℕ) (n every : ℕ) (report : Bool) (source : List ℕ) (left : Option (List ℕ)) (s : Status)
+    (old new : Option (List ℕ)) (m : Kept) (still : Type 0) →
+    RanWhole (in_module file) n source left s old new m still → ForInput left
+    (λ input. CutOffAt (exec file n every report) source input m old new still)
+cut-exec file n every report source left s old new m still r =
+    (r.input, r.input_is, (r.tables, r.runs, stands-whole r.tables r.input n m old new r.runs.accepted r.stands r.wrote, r.unread))
 
 cut-ran : (slides : Bool) (file : List ℕ) (n every : ℕ) (report : Bool) (source : List ℕ) (left : Option (List ℕ)) (s : Status)
     (old new : Option (List ℕ)) (m : Kept) (still : Type 0) →
@@ -336,6 +366,7 @@ cut-well (check file) source left old new m still r = (r.tree, r.runs, r.fresh, 
 cut-well (code file) source left old new m still r = (r.tree, r.runs, r.fresh, whole-part old new _ r.wrote)
 cut-well (pack file) source left old new m still r = (r.tree, r.runs, r.fresh, whole-part old new _ r.wrote)
 cut-well (bulk size) source left old new m still r = cut-generated size source status.Done old new m [] still r
+cut-well (exec file n every report) source left old new m still r = cut-exec file n every report source left status.Done old new m still r
 
 cut-stops : (c : Command) (source : List ℕ) (left : Option (List ℕ)) (s : Status) (old new : Option (List ℕ)) (m : Kept) (still : Type 0) →
     StopsRun c source left s old new m still → CutOff c source left old new m still
@@ -347,6 +378,7 @@ cut-stops (check file) source left s old new m still r = absurd r
 cut-stops (code file) source left s old new m still r = absurd r
 cut-stops (pack file) source left s old new m still r = absurd r
 cut-stops (bulk size) source left s old new m still r = cut-generated size source s old new m [] still r
+cut-stops (exec file n every report) source left s old new m still r = cut-exec file n every report source left s old new m still r
 
 -- one of the steps asks
 asked : (t : Tree) (input : List ℕ) (n k : ℕ) (old new : Option (List ℕ)) (still : Type 0) → AsksAfter t input n k old new →
@@ -392,6 +424,23 @@ cut-input (check file) source left old new m still h = absurd h.2
 cut-input (code file) source left old new m still h = absurd h.2
 cut-input (pack file) source left old new m still h = absurd h.2
 cut-input (bulk size) source left old new m still h = absurd h.2
+cut-input (exec file n every report) source left old new m still h =
+    let t = h.2.0 in
+    let asks = h.2.3 in (
+      h.0,
+      h.1,
+      (
+        t,
+        h.2.1,
+        record {
+          within = omega (arith, asks.before);
+          made = asks.made;
+          stands = h.2.2;
+          wrote = wrote-whole t h.0 m.steps old new asks.wrote;
+        },
+        asked (program_of t) h.0 n m.steps old new still asks,
+      ),
+    )
 
 cut-at : (c : Command) (source : List ℕ) (left old new : Option (List ℕ)) (m : Kept) (still : Type 0) → CutOff c source left old new m still →
     ForInput left (λ input. CutOffAt c source input m old new still)
@@ -402,6 +451,7 @@ cut-at (check file) source left old new m still h = for-input left _ (λ input. 
 cut-at (code file) source left old new m still h = for-input left _ (λ input. h)
 cut-at (pack file) source left old new m still h = for-input left _ (λ input. h)
 cut-at (bulk size) source left old new m still h = for-input left _ (λ input. h)
+cut-at (exec file n every report) source left old new m still h = h
 
 untouched-or : (c : Command) (source : List ℕ) (left old new : Option (List ℕ)) (m : Kept) (still : Type 0) →
     Untouched m old new still ⊎ CutOff c source left old new m still →
@@ -460,6 +510,7 @@ module _ (source : List ℕ) (left old new : Option (List ℕ)) (m : Kept) (stil
   untouched-still (code file) (inr h) e = inr h
   untouched-still (pack file) (inr h) e = inr h
   untouched-still (bulk size) (inr h) e = inr h
+  untouched-still (exec file n every report) (inr h) e = absurd (no_lie e)
 
   well-still : (c : Command) → EndsWell c source left old new m (Unit {0}) → reads_input c ≡ false → EndsWell c source left old new m still
   well-still (run slides file n every report) h e = absurd (no_lie e)
@@ -469,6 +520,7 @@ module _ (source : List ℕ) (left old new : Option (List ℕ)) (m : Kept) (stil
   well-still (code file) h e = h
   well-still (pack file) h e = h
   well-still (bulk size) h e = h
+  well-still (exec file n every report) h e = absurd (no_lie e)
 
   stops-still : (c : Command) (s : Status) → StopsRun c source left s old new m (Unit {0}) → reads_input c ≡ false →
       StopsRun c source left s old new m still
@@ -479,6 +531,7 @@ module _ (source : List ℕ) (left old new : Option (List ℕ)) (m : Kept) (stil
   stops-still (code file) s h e = absurd h
   stops-still (pack file) s h e = absurd h
   stops-still (bulk size) s h e = h
+  stops-still (exec file n every report) s h e = absurd (no_lie e)
 
   pub settles-still : (c : Command) (s : Status) → reads_input c ≡ false → Settles c source left s old new m (Unit {0}) →
       Settles c source left s old new m still

@@ -15,7 +15,7 @@ use Rattle.rg_step.specs.Pacers.{Asks}
 use Rattle.rg_run.specs.Machine.{Kept, IsFresh}
 use Rattle.rg_run.specs.Sound.{Stands}
 use Rattle.rg_run.specs.States.{RunsThrough}
-use Rattle.rg_top.specs.Commands.{Origin, in_file, generated}
+use Rattle.rg_top.specs.Commands.{Origin, in_file, generated, in_module}
 use Rattle.rg_top.specs.Headline.{Runs}
 
 -- over the first steps of a program on an input, so many, the pacer of a manager was asked once for each of them that asks it
@@ -35,6 +35,7 @@ SayYes m count_old count_new trace_old trace_new =
 abbrev pub input_for : Origin → List ℕ → List ℕ
 input_for (in_file file) input = input
 input_for (generated size) input = []
+input_for (in_module file) input = input
 
 -- no run has begun, and no pacer was asked
 pub record Unasked (m : Kept) (count_old count_new trace_old trace_new : ℕ) : Type 0 where

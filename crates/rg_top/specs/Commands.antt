@@ -30,6 +30,8 @@ pub data Command : Type 0 where
   pack : (file : List ℕ) → Command
   -- bulk N
   bulk : (size : ℕ) → Command
+  -- exec FILE --steps N --every N --report
+  exec : (file : List ℕ) → (steps every : ℕ) → (report : Bool) → Command
 
 -- where a command's program comes from
 pub data Origin : Type 0 where
@@ -37,6 +39,8 @@ pub data Origin : Type 0 where
   in_file : (file : List ℕ) → Origin
   -- it is generated, with that size
   generated : (size : ℕ) → Origin
+  -- a file of that name has a module, which programs raise
+  in_module : (file : List ℕ) → Origin
 
 -- where the program of a command comes from
 abbrev pub origin_of : Command → Origin
@@ -47,6 +51,7 @@ origin_of (check file) = in_file file
 origin_of (code file) = in_file file
 origin_of (pack file) = in_file file
 origin_of (bulk size) = generated size
+origin_of (exec file steps every report) = in_module file
 
 -- the most steps that a command asks for; `bulk` asks for as many as there can be, and one that runs nothing for none
 abbrev pub steps_of : Command → ℕ
@@ -57,6 +62,7 @@ steps_of (check file) = 0
 steps_of (code file) = 0
 steps_of (pack file) = 0
 steps_of (bulk size) = MOST_STEPS
+steps_of (exec file steps every report) = steps
 
 -- the number to which a command tunes the pacers: how often they are asked before they say yes, 0 for never; `bulk` has them say yes never
 abbrev pub every_of : Command → ℕ
@@ -67,6 +73,7 @@ every_of (check file) = 0
 every_of (code file) = 0
 every_of (pack file) = 0
 every_of (bulk size) = 0
+every_of (exec file steps every report) = every
 
 -- whether a command runs a program on the machine that is handed in
 abbrev pub runs_on : Command → Bool
@@ -77,6 +84,7 @@ runs_on (check file) = false
 runs_on (code file) = false
 runs_on (pack file) = false
 runs_on (bulk size) = true
+runs_on (exec file steps every report) = true
 
 -- whether it is `slide`
 abbrev pub is_slide : Command → Bool
@@ -87,6 +95,7 @@ is_slide (check file) = false
 is_slide (code file) = false
 is_slide (pack file) = false
 is_slide (bulk size) = false
+is_slide (exec file steps every report) = false
 
 -- whether a command reports
 abbrev pub reports : Command → Bool
@@ -97,6 +106,7 @@ reports (check file) = false
 reports (code file) = false
 reports (pack file) = false
 reports (bulk size) = false
+reports (exec file steps every report) = report
 
 -- whether what the words give does
 abbrev pub may_report : Option Command → Bool
@@ -112,6 +122,7 @@ reads_input (check file) = false
 reads_input (code file) = false
 reads_input (pack file) = false
 reads_input (bulk size) = false
+reads_input (exec file steps every report) = true
 
 -- whether what the words give may
 abbrev pub may_read : Option Command → Bool
@@ -127,6 +138,7 @@ opens_file (check file) = true
 opens_file (code file) = true
 opens_file (pack file) = true
 opens_file (bulk size) = false
+opens_file (exec file steps every report) = true
 
 -- whether what the words give opens one
 abbrev pub may_open : Option Command → Bool
@@ -174,7 +186,7 @@ with_number o option word =
     if bytes_eq option (codes "--steps") then with_steps o word else
     if bytes_eq option (codes "--every") then with_every o word else None
 
--- What words behind the file of `run` or `slide` give on top of what is given: options in any order, each at most once, each number in a word of
+-- What words behind the file of `run`, `slide` or `exec` give on top of what is given: options in any order, each at most once, each number in a word of
 -- its own.
 abbrev pub options_in : List (List ℕ) → Options → Option Options
 options_in [] o = Some o
@@ -186,6 +198,10 @@ options_in (option ∷ word ∷ words) o =
 -- `run` or `slide` with its options
 abbrev pub running : (slides : Bool) → List ℕ → Options → Command
 running slides file o = run slides file (unwrap_or o.steps USUAL_STEPS) (unwrap_or o.every USUAL_EVERY) o.report
+
+-- `exec` with its options
+abbrev pub executing : List ℕ → Options → Command
+executing file o = exec file (unwrap_or o.steps USUAL_STEPS) (unwrap_or o.every USUAL_EVERY) o.report
 
 -- the number of steps that the words behind the file of `plain` ask for
 abbrev pub steps_in : List (List ℕ) → Option ℕ
@@ -199,7 +215,7 @@ abbrev pub alone : Command → List (List ℕ) → Option Command
 alone c [] = Some c
 alone c (word ∷ words) = None
 
--- what a name says of a file, with the words behind it
+-- what a name says of a file with a source, with the words behind it
 abbrev pub named : List ℕ → List ℕ → List (List ℕ) → Option Command
 named name file options =
     if bytes_eq name (codes "run") then option_map (running false file) (options_in options no_options) else
@@ -209,6 +225,11 @@ named name file options =
     if bytes_eq name (codes "check") then alone (check file) options else
     if bytes_eq name (codes "code") then alone (code file) options else
     if bytes_eq name (codes "pack") then alone (pack file) options else None
+
+-- the same, or `exec`
+abbrev pub on_file : List ℕ → List ℕ → List (List ℕ) → Option Command
+on_file name file options =
+    if bytes_eq name (codes "exec") then option_map (executing file) (options_in options no_options) else named name file options
 
 -- a command on a size alone
 abbrev pub sized : (number : List ℕ) → List (List ℕ) → Option Command
@@ -221,4 +242,4 @@ command [] = None
 command (name ∷ []) = None
 command (name ∷ word ∷ words) =
     if bytes_eq name (codes "bulk") then sized word words else
-    if is_file word then named name word words else None
+    if is_file word then on_file name word words else None

@@ -17,20 +17,25 @@ use Rattle.rg_rules.specs.Runs.{Ending, Running, Done, Stopped, Ran}
 use Rattle.rg_rules.specs.Runs as rules
 use Rattle.rg_code.specs.Lowering.{lowered}
 use Rattle.rg_code.specs.Listing.{listing}
+use Rattle.rg_module.specs.Parts.{Parts}
+use Rattle.rg_module.specs.Laws.{not_module}
 use Rattle.rg_module.specs.Spelling.{spelling}
+use Rattle.rg_module.specs.Spelling as modules
+use Rattle.rg_raised.specs.Raises.{Raises, unverified}
 use Rattle.rg_build.specs.ModuleOf.{module_of}
 use Rattle.rg_make.specs.Generated as make
 use Rattle.rg_top.specs.declared.status.Status.{Status}
 use Rattle.rg_top.specs.declared.status.Status.TheVariants as status
-use Rattle.rg_top.specs.Commands.{Command, run, plain, fmt, check, code, pack, bulk, Origin, in_file, generated, origin_of}
+use Rattle.rg_top.specs.declared.limits.TheConstants.{MODULE_BYTES}
+use Rattle.rg_top.specs.Commands.{Command, run, plain, fmt, check, code, pack, bulk, exec, Origin, in_file, generated, in_module, origin_of}
 
--- what a source can be
+-- what a source, or a module, can be
 pub data Meaning : Type 0 where
-  -- more bytes than a source may have
+  -- more bytes than one may have
   too_long : Meaning
-  -- a source with a fault of its tokens or of its grammar: its first one
+  -- a source with a fault of its tokens or of its grammar: its first one; or bytes that spell no module, or one that no program raises
   faulty : Fault → Meaning
-  -- a source that spells a tree
+  -- a source that spells a tree, or a module that it raises
   spelt : Tree → Meaning
 
 -- the tokens of a source are stuck with a fault
@@ -48,15 +53,33 @@ Means source too_long = SOURCE_BYTES < length source
 Means source (faulty f) = (length source ≤ SOURCE_BYTES) × ((cut source ≡ Err f) ⊎ IsStuck source f)
 Means source (spelt t) = (length source ≤ SOURCE_BYTES) × SpellsTree source t
 
+-- the bytes spell a module
+abbrev pub HasModule : List ℕ → Parts → Type 0
+HasModule bytes m = modules.Spells bytes m
+
+-- bytes that spell no module have one fault, and those of a module that no program raises another
+abbrev pub IsNoProgram : List ℕ → Fault → Type 0
+IsNoProgram bytes f =
+    ((f ≡ not_module) × ((m : Parts) → HasModule bytes m → ⊥))
+    ⊎ ((f ≡ unverified) × (m : Parts) × HasModule bytes m × ((t : Tree) → Raises m t → ⊥))
+
+-- What the bytes of a module are. Programs that raise one module are the same but for lines that no run tells, so it may mean several.
+abbrev pub MeansModule : List ℕ → Meaning → Type 0
+MeansModule bytes too_long = MODULE_BYTES < length bytes
+MeansModule bytes (faulty f) = (length bytes ≤ MODULE_BYTES) × IsNoProgram bytes f
+MeansModule bytes (spelt t) = (length bytes ≤ MODULE_BYTES) × (m : Parts) × HasModule bytes m × Raises m t
+
 -- a program's source there: a file's bytes, where files tell them; a generated program has none
 abbrev pub HasSource : Option Told → Origin → (source : List ℕ) → Type 0
 HasSource told (in_file file) source = HasFile told file source
 HasSource told (generated size) source = source ≡ []
+HasSource told (in_module file) source = HasFile told file source
 
--- what comes from there: what the file's source means, or the generated program of that size, with the seed 1
+-- what comes from there: what the file's source or its module means, or the generated program of that size, with the seed 1
 abbrev pub MeansFrom : Origin → (source : List ℕ) → Meaning → Type 0
 MeansFrom (in_file file) source m = Means source m
 MeansFrom (generated size) source m = m ≡ spelt (make.generated 1 size)
+MeansFrom (in_module file) source m = MeansModule source m
 
 -- a status, with the text on the output
 pub record Answer : Type 0 where
@@ -123,6 +146,7 @@ expected (check file) numbers input (spelt t) = unless_fault (first_fault t) (re
 expected (code file) numbers input (spelt t) = unless_fault (first_fault t) (record { status = status.Done; text = listed_text t })
 expected (pack file) numbers input (spelt t) = unless_fault (first_fault t) (record { status = status.Done; text = packed_text t })
 expected (bulk size) numbers input (spelt t) = bulk_answer size numbers t [] MOST_STEPS
+expected (exec file n every report) numbers input (spelt t) = unless_fault (first_fault t) (run_answer t input n)
 
 -- the command answers that to the source, on the input, where the machine has those numbers
 abbrev pub Expects : Command → EndNumbers → (source input : List ℕ) → Status → (text : List ℕ) → Type 0

@@ -22,7 +22,8 @@ use Rattle.rg_run.specs.Reports.{event_lines, AreCutLines}
 use Rattle.rg_run.specs.Sound.{IsSound, Stands, NeverAsks}
 use Rattle.rg_top.specs.declared.status.Status.{Status}
 use Rattle.rg_top.specs.declared.status.Status.TheVariants as status
-use Rattle.rg_top.specs.Commands.{Command, run, plain, fmt, check, code, pack, bulk, command, Origin, in_file, generated, origin_of, steps_of}
+use Rattle.rg_top.specs.Commands.{Command, run, plain, fmt, check, code, pack, bulk, exec, command, Origin, in_file, generated, in_module, origin_of}
+use Rattle.rg_top.specs.Commands.{steps_of}
 use Rattle.rg_top.specs.Statuses.{status_text, is_from_outside}
 use Rattle.rg_top.specs.Expected.{Meaning, too_long, faulty, spelt, HasSource, MeansFrom, expected, accepted_text, listed_text}
 use Rattle.rg_top.specs.Expected.{packed_text, text_after}
@@ -66,6 +67,8 @@ Leaves (check file) input (spelt t) m still = IsFresh m
 Leaves (code file) input (spelt t) m still = IsFresh m
 Leaves (pack file) input (spelt t) m still = IsFresh m
 Leaves (bulk size) input (spelt t) m still = RunStands t [] MOST_STEPS m
+Leaves (exec file n every report) input (spelt t) m still =
+    IfAccepted (first_fault t) (RunStands t input n m × (NeverAsks t input n → still)) (IsFresh m × still)
 
 -- A command has answered this status to one source and one input: the source means something, of which this status and this
 -- text are expected; the output has taken that text and nothing else; and the rest is left as it must be for that meaning.
@@ -116,6 +119,10 @@ CutOffAt (code file) source input m old new still = (t : Tree) × Runs (in_file 
 CutOffAt (pack file) source input m old new still = (t : Tree) × Runs (in_file file) source t × IsFresh m × AppendsPart old new (packed_text t)
 CutOffAt (bulk size) source input m old new still =
     (t : Tables) × Runs (generated size) source (program_of t) × StandsAfter t [] MOST_STEPS m.steps m (bulk_added size t m.steps m) old new
+CutOffAt (exec file n every report) source input m old new still =
+    (t : Tables) × Runs (in_module file) source (program_of t)
+    × StandsAfter t input n m.steps m (added t (opening (program_of t) input) m.steps) old new
+    × (NeverAsks (program_of t) input n → still)
 
 -- a run of n steps has made k whole ones, the next asks for the input, and the output has taken the text of all k
 pub record AsksAfter (t : Tree) (input : List ℕ) (n k : ℕ) (old new : Option (List ℕ)) : Type 0 where
@@ -125,7 +132,7 @@ pub record AsksAfter (t : Tree) (input : List ℕ) (n k : ℕ) (old new : Option
   pub wrote : Appends old new (text_after t input k)
   pub sound : IsSound t input k
 
--- what a call leaves that was cut off by the input; commands other than `run` and `plain` never are
+-- what a call leaves that was cut off by the input; commands other than `run`, `plain` and `exec` never are
 abbrev pub CutAtInput : Command → (source input : List ℕ) → Kept → (old new : Option (List ℕ)) → Type 0
 CutAtInput (run slides file n every report) source input m old new =
     (t : Tables) × Runs (in_file file) source (program_of t) × Stands t input m.steps m × AsksAfter (program_of t) input n m.steps old new
@@ -136,6 +143,8 @@ CutAtInput (check file) source input m old new = ⊥
 CutAtInput (code file) source input m old new = ⊥
 CutAtInput (pack file) source input m old new = ⊥
 CutAtInput (bulk size) source input m old new = ⊥
+CutAtInput (exec file n every report) source input m old new =
+    (t : Tables) × Runs (in_module file) source (program_of t) × Stands t input m.steps m × AsksAfter (program_of t) input n m.steps old new
 
 -- the steps that the words ask for
 abbrev pub steps_asked : Option Command → ℕ

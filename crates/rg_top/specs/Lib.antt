@@ -4,4 +4,5 @@ pub mod Statuses
 pub mod Expected
 pub mod Headline
 pub mod Asked
+pub mod Laws
 pub mod Inner

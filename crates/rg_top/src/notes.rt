@@ -26,7 +26,8 @@ use std::alloc::Global;
 pub(crate) const USAGE: &[u8] =
     b"usage: reggio run FILE [--steps N] [--every N] [--report]; check FILE; fmt FILE; \
     code FILE; plain FILE [--steps N]; bulk N; \
-    slide FILE [--steps N] [--every N] [--report]; pack FILE\n";
+    slide FILE [--steps N] [--every N] [--report]; pack FILE; \
+    exec FILE [--steps N] [--every N] [--report]\n";
 
 /// The words of a trap.
 fn trap_words(kind: Trap) -> &'static [u8]

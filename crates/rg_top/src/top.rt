@@ -6,6 +6,7 @@ ghost use Rattle.std.specs.Prelude.{Some, None, Err, IfOk, []};
 ghost use Rattle.std.specs.Bool.{OnTrue, OnFalse};
 ghost use Rattle.rg_base.specs.declared.fault.Fault.{Fault};
 ghost use Rattle.rg_base.specs.declared.limits.TheConstants.{SOURCE_BYTES};
+ghost use Rattle.rg_top.specs.declared.limits.TheConstants.{MODULE_BYTES};
 ghost use Rattle.rg_base.specs.declared.outcome.Trap.{Trap};
 ghost use Rattle.rg_base.specs.Report as report;
 ghost use Rattle.rg_base.specs.Tokens.{cut};
@@ -21,18 +22,20 @@ ghost use Rattle.rg_run.specs.Machine.{IsFresh, Kept, numbers_of};
 ghost use Rattle.rg_rules.specs.Acceptance.{Accepted as IsAccepted};
 ghost use Rattle.rg_rules.specs.Names.{FewNames};
 ghost use Rattle.rg_top.specs.Commands.{Command, command, texts, run, plain, fmt, check, code};
-ghost use Rattle.rg_top.specs.Commands.{pack, bulk, Origin, in_file, generated, origin_of, steps_of};
+ghost use Rattle.rg_top.specs.Commands.{pack, bulk, exec, Origin, in_file, generated, in_module};
+ghost use Rattle.rg_top.specs.Commands.{origin_of, steps_of};
 ghost use Rattle.rg_top.specs.Commands.{opens_file, may_open, reads_input, may_read, every_of};
 ghost use Rattle.rg_top.specs.Commands.{runs_on, is_slide, reports, may_report};
-ghost use Rattle.rg_top.specs.Inner.Requests.{command_of, AsksWithin};
+ghost use Rattle.rg_top.specs.Inner.Requests.{command_of, command_for, AsksWithin, TaskWithin};
 ghost use Rattle.rg_top.specs.Statuses.{is_answer, is_refusal, is_cut_off};
 ghost use Rattle.rg_top.specs.Expected.{spelt, Means, MeansFrom, IsStuck, SpellsTree};
-ghost use Rattle.rg_top.specs.Expected.{ExpectsStatus};
+ghost use Rattle.rg_top.specs.Expected.{ExpectsStatus, MeansModule, faulty};
 ghost use Rattle.rg_top.specs.Headline.{ForSource, Exactly, ExactlyWhere, Answers, Runs, Untouched};
 ghost use Rattle.rg_top.specs.Headline.{CutOffAt, CutAtInput, TookNotes, ToldFault, MayTell};
 ghost use Rattle.rg_top.specs.Headline.{steps_asked};
 ghost use Rattle.rg_top.specs.Asked.{Unasked, RunAsks, SayYes, input_for};
 ghost use Rattle.rg_top.specs.Inner.Settled.{status_of_ended, PutLine, Settles, Brings, Serves};
+ghost use Rattle.rg_top.specs.Inner.Settled.{BringsRaised};
 ghost use Rattle.rg_top.specs.Inner.Settled.{CausedBeside, CausedByOutput, Tunes, Chooses};
 ghost use Rattle.rg_top.specs.Inner.Setting.{IsUnused, IsLent, SlidesOn, SlidesTo, RanIn};
 ghost use Rattle.rg_top.specs.Inner.Setting.{SettlesIn, SettlesCommandIn, ReportedIn, CausedIn};
@@ -40,10 +43,12 @@ ghost use Rattle.rg_top.specs.Inner.Setting.{ReportedOf, PacedIn};
 ghost use Rattle.rg_top.specs.Inner.Tallies.{TunedTo, RunAskedOf, AskedFromOf};
 ghost use Rattle.rg_top.specs.Inner.Tallies.{AskedCommandOf, SayYesOf};
 
+use crate::laws::answers_are_one;
+use crate::limits::MODULE_BYTES;
 use crate::notes::{tell, tell_behind};
 use crate::setting::{NoInput, Setting};
 use crate::status::Status;
-use crate::words::{self, Request, RunOptions};
+use crate::words::{self, Request, RunOptions, Task};
 use rg_base::{Ended, Fault, MOST_STEPS, SOURCE_BYTES, Stop};
 use rg_build::packed;
 use rg_check::{Accepted, check, spelt_has_few_names};
@@ -53,10 +58,12 @@ use rg_io::{Files, Sink, Source, Taken, put_all, take_all};
 use rg_lex::tokens;
 use rg_lower::lower;
 use rg_make::program_of;
+use rg_module::decode;
 use rg_pace::Pacer;
 use rg_parse::parse;
 use rg_plain::PlainMachine;
 use rg_print::{canon_parses_back, text};
+use rg_raised::verify;
 use rg_report::bulk_line;
 use rg_run::Machine;
 use rg_tree::Program;
@@ -90,6 +97,20 @@ fn read(alloc: Global, source: &[u8]) -> Result<Program, Stop>
         Err(stop) => return Err(stop),
     };
     parse(alloc, source, &found)
+}
+
+/// The program that a module was raised from, of which it is one.
+fn raised(alloc: Global, bytes: &[u8]) -> Result<Accepted, Stop>
+    requires { length bytes.now ≤ MODULE_BYTES }
+    ensures ok { IfOk result (λ a. MeansModule bytes.now (spelt (program_of a.program))) }
+    ensures accepted { IfOk result (λ a. IsAccepted (program_of a.program)) }
+    ensures fault { (f : Fault) → result ≡ Err (Stop.Fault f) → MeansModule bytes.now (faulty f) }
+{
+    let module = match decode(alloc, bytes) {
+        Ok(module) => module,
+        Err(stop) => return Err(stop),
+    };
+    verify(alloc, &module)
 }
 
 /// An accepted program with its code.
@@ -301,6 +322,26 @@ fn program_in<F: Files>(alloc: Global, name: &str, files: &mut F) -> Result<Prog
         Err(Stop::Fault(fault)) => Err(Status::Refused(fault)),
         Err(Stop::Memory) => Err(Status::Memory),
         Ok(program) => Ok(program),
+    }
+}
+
+/// The program that was raised from the module of a file, or the status of the call without one.
+fn module_in<F: Files>(alloc: Global, name: &str, files: &mut F) -> Result<Accepted, Status>
+    ensures brings { BringsRaised (F.told files.old) name.now result }
+    ensures source_fault { result ≡ Err Status.SourceFault →
+        Rose (F.faults files.old) (F.faults files.new) }
+    ensures never_fall { F.faults files.old ≤ F.faults files.new }
+{
+    let bytes = match take_all(alloc, files, name, MODULE_BYTES) {
+        Err(Taken::SourceFault) => return Err(Status::SourceFault),
+        Err(Taken::Long) => return Err(Status::Long),
+        Err(Taken::Memory) => return Err(Status::Memory),
+        Ok(bytes) => bytes,
+    };
+    match raised(alloc, bytes.bytes()) {
+        Err(Stop::Fault(fault)) => Err(Status::Refused(fault)),
+        Err(Stop::Memory) => Err(Status::Memory),
+        Ok(accepted) => Ok(accepted),
     }
 }
 
@@ -559,8 +600,8 @@ impl<O: Sink, R: Sink> Setting<'_, O, R> {
         }
     }
 
-    /// Does what is asked for.
-    fn answer<F: Files, I: Source>(
+    /// Reads a program or generates it, and does what is asked for with it.
+    fn answer_request<F: Files, I: Source>(
         &mut self,
         request: Request<'_>,
         files: &mut F,
@@ -597,37 +638,117 @@ impl<O: Sink, R: Sink> Setting<'_, O, R> {
             Ok(program) => self.answer_program(request, program, input, count, trace),
         }
     }
+
+    /// Reads a module, and runs it where a program raises it.
+    fn answer_module<F: Files, I: Source>(
+        &mut self,
+        file: &str,
+        options: RunOptions,
+        files: &mut F,
+        input: &mut I,
+        count: &mut dyn Pacer,
+        trace: &mut dyn Pacer,
+    ) -> Status
+        requires { IsUnused self.old }
+        ensures settles { SettlesCommandIn O.taken (F.told files.old)
+            (exec file.now options.steps options.every options.report)
+            (I.left input.old) result self.old self.new (input.new ≡ input.old) }
+        ensures notes { ReportedIn R.taken options.report result self.old self.new }
+        ensures tuned { ¬ IsFresh self.new.machine.now →
+            TunedTo options.every (tally count.new) (tally trace.new) }
+        ensures asked { AskedCommandOf (F.told files.old) (in_module file.now)
+            (I.left input.old) self.new.machine.now
+            (tally count.old) (tally count.new) (tally trace.old) (tally trace.new) }
+        ensures yeses { SayYesOf self.new.machine.now
+            (tally count.old) (tally count.new) (tally trace.old) (tally trace.new) }
+        ensures source_fault { result ≡ Status.SourceFault →
+            Rose (F.faults files.old) (F.faults files.new) }
+        ensures files_never_fall { F.faults files.old ≤ F.faults files.new }
+        ensures caused { CausedIn O.faults R.faults result (I.faults input.old) (I.faults input.new)
+            self.old self.new }
+        ensures kept { IsLent self.old self.new × SlidesTo false self.new }
+    {
+        match module_in(self.alloc, file, files) {
+            Err(status) => status,
+            Ok(accepted) => self.run_accepted(&accepted, options, input, count, trace),
+        }
+    }
+
+    /// Does what the words ask for.
+    fn answer<F: Files, I: Source>(
+        &mut self,
+        task: Task<'_>,
+        files: &mut F,
+        input: &mut I,
+        count: &mut dyn Pacer,
+        trace: &mut dyn Pacer,
+    ) -> Status
+        requires unused { IsUnused self.old }
+        requires within { TaskWithin task }
+        ensures settles { SettlesCommandIn O.taken (F.told files.old) (command_for task.entry)
+            (I.left input.old) result self.old self.new (input.new ≡ input.old) }
+        ensures files_unread { opens_file (command_for task.entry) ≡ false →
+            files.new ≡ files.old }
+        ensures reads_nothing { reads_input (command_for task.entry) ≡ false →
+            input.new ≡ input.old }
+        ensures notes { ReportedOf R.taken (command_for task.entry) result self.old self.new }
+        ensures tuned { Tunes (command_for task.entry) self.new.machine.now
+            (tally count.new).tuned (tally trace.new).tuned }
+        ensures slides { Chooses (command_for task.entry) self.new.machine.now }
+        ensures asked { AskedCommandOf (F.told files.old) (origin_of (command_for task.entry))
+            (I.left input.old) self.new.machine.now
+            (tally count.old) (tally count.new) (tally trace.old) (tally trace.new) }
+        ensures yeses { SayYesOf self.new.machine.now
+            (tally count.old) (tally count.new) (tally trace.old) (tally trace.new) }
+        ensures source_fault { result ≡ Status.SourceFault →
+            Rose (F.faults files.old) (F.faults files.new) }
+        ensures files_never_fall { F.faults files.old ≤ F.faults files.new }
+        ensures caused { CausedIn O.faults R.faults result (I.faults input.old) (I.faults input.new)
+            self.old self.new }
+        ensures lent { IsLent self.old self.new }
+    {
+        match task {
+            Task::OfProgram(request) => self.answer_request(request, files, input, count, trace),
+            Task::OfModule { file, options } => {
+                self.answer_module(file, options, files, input, count, trace)
+            }
+        }
+    }
 }
 
 /// The number of steps that are asked for.
-fn steps_of(request: Request<'_>) -> u64
-    ensures { result ≡ steps_of (command_of request.entry) }
+fn steps_of(task: Task<'_>) -> u64
+    ensures { result ≡ steps_of (command_for task.entry) }
 {
-    match request {
-        Request::Run { options, .. } => options.steps,
-        Request::Plain { steps, .. } => steps,
-        Request::Format { .. } | Request::Check { .. } => 0,
-        Request::Code { .. } | Request::Pack { .. } => 0,
-        Request::Bulk { .. } => MOST_STEPS,
+    match task {
+        Task::OfModule { options, .. } => options.steps,
+        Task::OfProgram(Request::Run { options, .. }) => options.steps,
+        Task::OfProgram(Request::Plain { steps, .. }) => steps,
+        Task::OfProgram(Request::Format { .. } | Request::Check { .. }) => 0,
+        Task::OfProgram(Request::Code { .. } | Request::Pack { .. }) => 0,
+        Task::OfProgram(Request::Bulk { .. }) => MOST_STEPS,
     }
 }
 
 /// Whether a report is asked for.
-fn reports(request: Request<'_>) -> bool
-    ensures { result ≡ reports (command_of request.entry) }
+fn reports(task: Task<'_>) -> bool
+    ensures { result ≡ reports (command_for task.entry) }
 {
-    match request {
-        Request::Run { options, .. } => options.report,
-        Request::Plain { .. } | Request::Format { .. } | Request::Check { .. } => false,
-        Request::Code { .. } | Request::Pack { .. } | Request::Bulk { .. } => false,
+    match task {
+        Task::OfModule { options, .. } => options.report,
+        Task::OfProgram(Request::Run { options, .. }) => options.report,
+        Task::OfProgram(Request::Plain { .. } | Request::Format { .. }) => false,
+        Task::OfProgram(Request::Check { .. } | Request::Code { .. }) => false,
+        Task::OfProgram(Request::Pack { .. } | Request::Bulk { .. }) => false,
     }
 }
 
-/// Does what the words say: reads the file that they name, or generates the program of the size
-/// that they say, runs it for as many steps as they say, a file's on the input, gives the output
-/// to `out` and the text of the status to `notes`, with a report where the words ask for it, and
-/// answers the status. The pacers say when an active region is collected, and decide nothing else;
-/// with `slide`, what a collection of a traced region keeps moves, which decides nothing else.
+/// Does what the words say: reads the file that they name, a source or a module, or generates the
+/// program of the size that they say, runs it for as many steps as they say, a file's on the
+/// input, gives the output to `out` and the text of the status to `notes`, with a report where the
+/// words ask for it, and answers the status. The pacers say when an active region is collected,
+/// and decide nothing else; with `slide`, what a collection of a traced region keeps moves, which
+/// decides nothing else.
 pub fn reggio<F: Files, I: Source, O: Sink, R: Sink>(
     alloc: Global,
     words: &[&str],
@@ -723,20 +844,21 @@ pub fn reggio<F: Files, I: Source, O: Sink, R: Sink>(
     ensures out_never_falls { O.faults out.old ≤ O.faults out.new }
     ensures notes_never_fall { R.faults notes.old ≤ R.faults notes.new }
 {
+    answers_are_one();
     match words::command(words) {
         None => {
             machine.is_owned();
             tell(notes, Status::Usage, 0)
         }
-        Some(request) => {
+        Some(task) => {
             let mut setting = Setting {
                 alloc,
                 out: &mut *out,
                 notes: &mut *notes,
                 machine: &mut *machine,
             };
-            let status = setting.answer(request, files, input, count, trace);
-            let told = tell_behind(&mut setting, status, steps_of(request), reports(request));
+            let status = setting.answer(task, files, input, count, trace);
+            let told = tell_behind(&mut setting, status, steps_of(task), reports(task));
             machine.is_owned();
             told
         }

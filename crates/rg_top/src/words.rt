@@ -8,8 +8,10 @@ ghost use Rattle.rg_base.specs.Pieces.{is_digit};
 ghost use Rattle.rg_make.specs.declared.whole.TheConstants.{MOST_SIZE};
 ghost use Rattle.rg_top.specs.Commands.{command, texts, is_file, is_number, value_up_to, number_in};
 ghost use Rattle.rg_top.specs.Commands.{no_options, with_report, with_steps, with_every};
-ghost use Rattle.rg_top.specs.Commands.{with_number, options_in, running, steps_in, named, sized};
-ghost use Rattle.rg_top.specs.Inner.Requests.{command_of, AsksWithin};
+ghost use Rattle.rg_top.specs.Commands.{with_number, options_in, running, executing, steps_in};
+ghost use Rattle.rg_top.specs.Commands.{named, on_file, sized};
+ghost use Rattle.rg_top.specs.Inner.Requests.{command_of, command_for, run_options};
+ghost use Rattle.rg_top.specs.Inner.Requests.{AsksWithin, TaskWithin};
 
 use rg_base::{MOST_STEPS, USUAL_STEPS};
 use rg_make::MOST_SIZE;
@@ -20,7 +22,8 @@ pub(crate) const USUAL_EVERY: u64 = 1_000;
 /// The greatest number of `--every`.
 pub(crate) const MOST_EVERY: u64 = 1_000_000_000;
 
-/// How `run` or `slide` runs a program: `slides` is whether what a collection keeps moves.
+/// How `run`, `slide` or `exec` runs a program: `slides` is whether what a collection keeps moves,
+/// which `exec` has false.
 #[derive(Clone, Copy)]
 pub(crate) struct RunOptions {
     pub(crate) slides: bool,
@@ -29,7 +32,8 @@ pub(crate) struct RunOptions {
     pub(crate) report: bool,
 }
 
-/// What the words ask for, with the file that they name or the size of a generated program.
+/// What the words ask for of a program, with the file that has its source or the size of a
+/// generated one.
 #[derive(Clone, Copy)]
 pub(crate) enum Request<'a> {
     /// `run FILE --steps N --every N --report`, or `slide` with the same words
@@ -48,7 +52,16 @@ pub(crate) enum Request<'a> {
     Bulk { size: u32 },
 }
 
-/// What the words behind the file of `run` or `slide` have given so far.
+/// What the words ask for: something of a program, or a run of a module.
+#[derive(Clone, Copy)]
+pub(crate) enum Task<'a> {
+    /// a command on a program
+    OfProgram(Request<'a>),
+    /// `exec FILE --steps N --every N --report`
+    OfModule { file: &'a str, options: RunOptions },
+}
+
+/// What the words behind the file of `run`, `slide` or `exec` have given so far.
 #[derive(Clone, Copy)]
 struct Options {
     steps: Option<u64>,
@@ -170,6 +183,18 @@ impl Options {
         }
         None
     }
+
+    /// How a program is run with these options, and as usual where one isn't given.
+    fn run_options(self, slides: bool) -> RunOptions
+        ensures { result ≡ run_options slides self }
+    {
+        RunOptions {
+            slides,
+            steps: self.steps.unwrap_or(USUAL_STEPS),
+            every: self.every.unwrap_or(USUAL_EVERY),
+            report: self.report,
+        }
+    }
 }
 
 /// The options that words give.
@@ -203,13 +228,7 @@ fn run<'a>(slides: bool, file: &'a str, words: &[&str]) -> Option<Request<'a>>
         ≡ option_map (running slides file.now) (options_in (texts words.now) no_options) }
     ensures within { IfSome result AsksWithin }
 {
-    let given = options_in(words)?;
-    let options = RunOptions {
-        slides,
-        steps: given.steps.unwrap_or(USUAL_STEPS),
-        every: given.every.unwrap_or(USUAL_EVERY),
-        report: given.report,
-    };
+    let options = options_in(words)?.run_options(slides);
     Some(Request::Run { file, options })
 }
 
@@ -274,6 +293,29 @@ fn named<'a>(name: &str, file: &'a str, options: &[&str]) -> Option<Request<'a>>
     None
 }
 
+/// `exec` on a file with the options that words give.
+fn exec<'a>(file: &'a str, words: &[&str]) -> Option<Task<'a>>
+    ensures is { option_map command_for result
+        ≡ option_map (executing file.now) (options_in (texts words.now) no_options) }
+    ensures within { IfSome result TaskWithin }
+{
+    let options = options_in(words)?.run_options(false);
+    Some(Task::OfModule { file, options })
+}
+
+/// What a name and the words behind a file ask for of the file.
+fn on_file<'a>(name: &str, file: &'a str, options: &[&str]) -> Option<Task<'a>>
+    ensures is { MatchOption result (on_file name.now file.now (texts options.now) ≡ None)
+        (λ t. on_file name.now file.now (texts options.now) ≡ Some (command_for t)) }
+    ensures within { IfSome result TaskWithin }
+{
+    if name == "exec" {
+        return exec(file, options);
+    }
+    let request = named(name, file, options)?;
+    Some(Task::OfProgram(request))
+}
+
 /// `bulk` with a size and the words behind it.
 fn sized<'a>(number: &str, more: &[&str]) -> Option<Request<'a>>
     ensures is { MatchOption result (sized number.now (texts more.now) ≡ None)
@@ -287,20 +329,21 @@ fn sized<'a>(number: &str, more: &[&str]) -> Option<Request<'a>>
     Some(Request::Bulk { size })
 }
 
-/// The command that the words give, if they give one. They don't include the program's name.
-pub(crate) fn command<'a>(words: &[&'a str]) -> Option<Request<'a>>
+/// What the words ask for, if they give a command. They don't include the program's name.
+pub(crate) fn command<'a>(words: &[&'a str]) -> Option<Task<'a>>
     ensures is { MatchOption result (command (texts words.now) ≡ None)
-        (λ r. command (texts words.now) ≡ Some (command_of r)) }
-    ensures within { IfSome result AsksWithin }
+        (λ t. command (texts words.now) ≡ Some (command_for t)) }
+    ensures within { IfSome result TaskWithin }
 {
     let [name, word, more @ ..] = words else {
         return None;
     };
     if *name == "bulk" {
-        return sized(word, more);
+        let request = sized(word, more)?;
+        return Some(Task::OfProgram(request));
     }
     if !can_name_file(word) {
         return None;
     }
-    named(name, word, more)
+    on_file(name, word, more)
 }

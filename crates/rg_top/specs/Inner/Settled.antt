@@ -6,7 +6,7 @@ use Rattle.rg_base.specs.declared.limits.TheConstants.{MOST_STEPS}
 use Rattle.rg_base.specs.declared.outcome.Ended.{Ended}
 use Rattle.rg_base.specs.declared.outcome.Ended.TheVariants as ended
 use Rattle.rg_io.specs.Content.{Rose, Appends, AppendsPart, IsPrefix}
-use Rattle.rg_io.specs.Files.{Told}
+use Rattle.rg_io.specs.Files.{Told, HasFile}
 use Rattle.rg_tree.specs.Tree.{Tree}
 use Rattle.rg_tree.specs.Rows.Tables.{Tables}
 use Rattle.rg_tree.specs.Rows.RowTrees.{program_of}
@@ -17,13 +17,15 @@ use Rattle.rg_rules.specs.Names.{FewNames}
 use Rattle.rg_rules.specs.Runs.{opening}
 use Rattle.rg_rules.specs.Runs as rules
 use Rattle.rg_rules.specs.Outside.Texts.{added}
+use Rattle.rg_check.specs.Checked.{Checked}
 use Rattle.rg_run.specs.Machine.{Kept, IsFresh, numbers_of}
 use Rattle.rg_run.specs.Reports.{event_lines, AreCutLines}
 use Rattle.rg_run.specs.Sound.{Stands, NeverAsks}
 use Rattle.rg_top.specs.Asked.{Unasked, RunAsks, input_for}
 use Rattle.rg_top.specs.declared.status.Status.{Status}
 use Rattle.rg_top.specs.declared.status.Status.TheVariants as status
-use Rattle.rg_top.specs.Commands.{Command, run, plain, fmt, check, code, pack, bulk, Origin, in_file, generated, origin_of, every_of, runs_on, is_slide}
+use Rattle.rg_top.specs.Commands.{Command, run, plain, fmt, check, code, pack, bulk, exec, Origin, in_file, generated, in_module, origin_of}
+use Rattle.rg_top.specs.Commands.{every_of, runs_on, is_slide}
 use Rattle.rg_top.specs.Statuses.{status_text}
 use Rattle.rg_top.specs.Expected.{too_long, faulty, spelt, HasSource, MeansFrom, Means, status_of}
 use Rattle.rg_top.specs.Expected.{accepted_text, listed_text, packed_text, text_after, line_behind}
@@ -151,6 +153,7 @@ EndsWell (check file) source left old new m still = Passed file source old new m
 EndsWell (code file) source left old new m still = Listed file source old new m
 EndsWell (pack file) source left old new m still = Packed file source old new m
 EndsWell (bulk size) source left old new m still = RanGenerated size source status.Done old new m
+EndsWell (exec file n every report) source left old new m still = RanWhole (in_module file) n source left status.Done old new m still
 
 -- a run that didn't
 abbrev pub StopsRun : Command → (source : List ℕ) → (left : Option (List ℕ)) → Status → (old new : Option (List ℕ)) → Kept → (still : Type 0) → Type 0
@@ -161,6 +164,7 @@ StopsRun (check file) source left s old new m still = ⊥
 StopsRun (code file) source left s old new m still = ⊥
 StopsRun (pack file) source left s old new m still = ⊥
 StopsRun (bulk size) source left s old new m still = RanGenerated size source s old new m
+StopsRun (exec file n every report) source left s old new m still = RanWhole (in_module file) n source left s old new m still
 
 -- the tree that the source spells has that first fault
 abbrev pub HasFault : List ℕ → Fault → Type 0
@@ -175,6 +179,7 @@ IsFaulted (check file) source f = HasFault source f
 IsFaulted (code file) source f = HasFault source f
 IsFaulted (pack file) source f = HasFault source f
 IsFaulted (bulk size) source f = ⊥
+IsFaulted (exec file n every report) source f = ⊥
 
 -- a command that was cut off by the output or for want of memory; one that reads no input has none
 abbrev pub CutOff : Command → (source : List ℕ) → (left old new : Option (List ℕ)) → Kept → (still : Type 0) → Type 0
@@ -186,6 +191,8 @@ CutOff (check file) source left old new m still = CutOffAt (check file) source [
 CutOff (code file) source left old new m still = CutOffAt (code file) source [] m old new still
 CutOff (pack file) source left old new m still = CutOffAt (pack file) source [] m old new still
 CutOff (bulk size) source left old new m still = CutOffAt (bulk size) source [] m old new still
+CutOff (exec file n every report) source left old new m still = ForInput left
+    (λ input. CutOffAt (exec file n every report) source input m old new still)
 
 -- what was answered to a source
 abbrev pub Settles : Command → (source : List ℕ) → (left : Option (List ℕ)) → Status → (old new : Option (List ℕ)) → Kept → (still : Type 0) → Type 0
@@ -216,6 +223,7 @@ SettlesCommand told c left s old new m still =
 abbrev pub IfGenerated : Origin → Type 0 → Type 0
 IfGenerated (in_file file) P = ⊤
 IfGenerated (generated size) P = P
+IfGenerated (in_module file) P = ⊤
 
 -- what a command asks of its program: few names, and a generated one is accepted
 pub record Serves (c : Command) (t : Tree) : Type 0 where
@@ -247,6 +255,17 @@ Refuses told origin status.Long = (source : List ℕ) × HasSource told origin s
 abbrev pub Brings : Option Told → Origin → Result Tables Status → Type 0
 Brings told origin (Ok t) = Found told origin (program_of t)
 Brings told origin (Err s) = Refuses told origin s
+
+-- the program that was raised from the module there
+pub record Raised (told : Option Told) (file : List ℕ) (t : Tree) : Type 0 where
+  pub source : List ℕ
+  pub has : HasFile told file source
+  pub runs : Runs (in_module file) source t
+
+-- what a file with a module brings
+abbrev pub BringsRaised : Option Told → (file : List ℕ) → Result Checked Status → Type 0
+BringsRaised told file (Ok a) = Raised told file (program_of a.program)
+BringsRaised told file (Err s) = Refuses told (in_module file) s
 
 -- A call names a fault of the input only where its count rose, and one of the output only where its own count or that of the notes rose; and no
 -- count falls.

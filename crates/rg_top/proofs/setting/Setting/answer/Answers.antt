@@ -1,41 +1,25 @@
-use Rattle.std.proofs.Common.{refl, inl}
-use Rattle.rg_top.specs.Inner.Requests.{command_of}
-use Rattle.rg_top.specs.Commands.{reports}
-use Rattle.rg_top.proofs.NoteLines.{quiet-refuses}
-use Rattle.rg_top.proofs.Answer.{refuses-settles, refuses-caused, settles-inside}
-use Rattle.rg_top.proofs.Asked.{asked-command, yeses-fresh}
 use Rattle.rg_top.proofs.setting.Setting.answer.Goals as goal
 
-pub returns-in-Err-clause-settles : goal.returns-in-Err-clause-settles
-returns-in-Err-clause-settles g c =
-    refuses-settles _ (command_of c.args.request) c.in-Err.status _ _ _ _ c.in-Err.ensures.brings c.requires.unused.fresh refl
+pub returns-in-OfProgram-clause-settles : goal.returns-in-OfProgram-clause-settles
+returns-in-OfProgram-clause-settles g c = rw c.in-OfProgram.is c.answer_request.ensures.settles
 
-pub returns-in-Err-clause-caused : goal.returns-in-Err-clause-caused
-returns-in-Err-clause-caused g c = refuses-caused _ _ c.in-Err.status _ _ _ c.in-Err.ensures.brings
+pub returns-in-OfModule-clause-settles : goal.returns-in-OfModule-clause-settles
+returns-in-OfModule-clause-settles g c = rw c.in-OfModule.is c.answer_module.ensures.settles
 
-pub returns-in-Err-clause-notes : goal.returns-in-Err-clause-notes
-returns-in-Err-clause-notes g c =
-    quiet-refuses (reports (command_of c.args.request)) _ _ c.in-Err.status c.args.self.now.machine.now _ c.requires.unused.fresh c.in-Err.ensures.brings
+pub returns-in-OfProgram-clause-asked : goal.returns-in-OfProgram-clause-asked
+returns-in-OfProgram-clause-asked g c = rw c.in-OfProgram.is c.answer_request.ensures.asked
 
-pub returns-in-Ok-clause-settles : goal.returns-in-Ok-clause-settles
-returns-in-Ok-clause-settles g c =
-    let found = c.in-Ok.ensures.brings in inl (found.source, found.has, (c.answer_program.ensures.settles found.source found.means).0)
+pub returns-in-OfModule-clause-asked : goal.returns-in-OfModule-clause-asked
+returns-in-OfModule-clause-asked g c = rw c.in-OfModule.is c.answer_module.ensures.asked
 
-pub returns-in-Ok-clause-source_fault : goal.returns-in-Ok-clause-source_fault
-returns-in-Ok-clause-source_fault g c =
-    let found = c.in-Ok.ensures.brings in
-    λ e. absurd (settles-inside (command_of c.args.request) found.source _ _ _ _ _ _ (c.answer_program.ensures.settles found.source found.means).0 e)
+pub returns-in-OfProgram-clause-yeses : goal.returns-in-OfProgram-clause-yeses
+returns-in-OfProgram-clause-yeses g c = c.answer_request.ensures.yeses
 
-pub returns-in-Err-clause-asked : goal.returns-in-Err-clause-asked
-returns-in-Err-clause-asked g c = inl (record { fresh = c.requires.unused.fresh; count = refl; trace = refl })
+pub returns-in-OfModule-clause-yeses : goal.returns-in-OfModule-clause-yeses
+returns-in-OfModule-clause-yeses g c = c.answer_module.ensures.yeses
 
-pub returns-in-Err-clause-yeses : goal.returns-in-Err-clause-yeses
-returns-in-Err-clause-yeses g c = yeses-fresh _ _ _ _ _ c.requires.unused.fresh refl refl
+pub returns-in-OfModule-clause-tuned : goal.returns-in-OfModule-clause-tuned
+returns-in-OfModule-clause-tuned g c = rw c.in-OfModule.is (λ on. c.answer_module.ensures.tuned)
 
-pub returns-in-Ok-clause-asked : goal.returns-in-Ok-clause-asked
-returns-in-Ok-clause-asked g c =
-    let found = c.in-Ok.ensures.brings in
-    asked-command _ _ found.source _ _ _ _ _ _ found.has (c.answer_program.ensures.settles found.source found.means).1
-
-pub returns-in-Ok-clause-yeses : goal.returns-in-Ok-clause-yeses
-returns-in-Ok-clause-yeses g c = c.answer_program.ensures.yeses
+pub returns-in-OfModule-clause-slides : goal.returns-in-OfModule-clause-slides
+returns-in-OfModule-clause-slides g c = rw c.in-OfModule.is (λ begun. c.answer_module.ensures.kept.1)
