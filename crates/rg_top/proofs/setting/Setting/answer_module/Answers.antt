@@ -12,11 +12,12 @@ returns-in-Err-clause-settles g c =
     refuses-settles _ (exec c.args.file.now o.steps o.every o.report) c.in-Err.status _ _ _ _ c.in-Err.ensures.brings c.requires.fresh refl
 
 pub returns-in-Err-clause-caused : goal.returns-in-Err-clause-caused
-returns-in-Err-clause-caused g c = refuses-caused _ _ c.in-Err.status _ _ _ c.in-Err.ensures.brings
+returns-in-Err-clause-caused g c = refuses-caused (g.F.Files.told c.args.files.now) (in_module c.args.file.now) c.in-Err.status _ _ _ c.in-Err.ensures.brings
 
 pub returns-in-Err-clause-notes : goal.returns-in-Err-clause-notes
 returns-in-Err-clause-notes g c =
-    quiet-refuses c.args.options.report _ _ c.in-Err.status c.args.self.now.machine.now _ c.requires.fresh c.in-Err.ensures.brings
+    quiet-refuses c.args.options.report (g.F.Files.told c.args.files.now) (in_module c.args.file.now) c.in-Err.status c.args.self.now.machine.now _
+    c.requires.fresh c.in-Err.ensures.brings
 
 pub returns-in-Ok-clause-settles : goal.returns-in-Ok-clause-settles
 returns-in-Ok-clause-settles g c =
