@@ -1,6 +1,8 @@
 -- What a program's source means, and what a command answers to it (docs/promises.md, "The headline").
 use Rattle.std.specs.Prelude.{◌≡◌, ℕ, ◌<◌, ◌≤◌, ◌⊎◌, List, [], ◌∷◌, ◌++◌, codes, length, Option, Some, None, Ok, Err}
 use Rattle.rg_base.specs.declared.limits.TheConstants.{SOURCE_BYTES, MOST_STEPS}
+use Rattle.rg_base.specs.declared.fault.Code.{Code}
+use Rattle.rg_base.specs.declared.fault.Code.TheVariants.{Module, Unverified}
 use Rattle.rg_base.specs.declared.fault.Fault.{Fault}
 use Rattle.rg_base.specs.declared.outcome.EndNumbers.{EndNumbers}
 use Rattle.rg_base.specs.declared.token.Token.{Token}
@@ -18,10 +20,9 @@ use Rattle.rg_rules.specs.Runs as rules
 use Rattle.rg_code.specs.Lowering.{lowered}
 use Rattle.rg_code.specs.Listing.{listing}
 use Rattle.rg_module.specs.Parts.{Parts}
-use Rattle.rg_module.specs.Laws.{not_module}
 use Rattle.rg_module.specs.Spelling.{spelling}
 use Rattle.rg_module.specs.Spelling as modules
-use Rattle.rg_raised.specs.Raises.{Raises, unverified}
+use Rattle.rg_raised.specs.Raises.{Raises}
 use Rattle.rg_build.specs.ModuleOf.{module_of}
 use Rattle.rg_make.specs.Generated as make
 use Rattle.rg_top.specs.declared.status.Status.{Status}
@@ -57,11 +58,15 @@ Means source (spelt t) = (length source ≤ SOURCE_BYTES) × SpellsTree source t
 abbrev pub HasModule : List ℕ → Parts → Type 0
 HasModule bytes m = modules.Spells bytes m
 
+-- a fault of a module, which has no lines
+abbrev pub at_no_line : Code → Fault
+at_no_line code = record { code = code; line = 0 }
+
 -- bytes that spell no module have one fault, and those of a module that no program raises another
 abbrev pub IsNoProgram : List ℕ → Fault → Type 0
 IsNoProgram bytes f =
-    ((f ≡ not_module) × ((m : Parts) → HasModule bytes m → ⊥))
-    ⊎ ((f ≡ unverified) × (m : Parts) × HasModule bytes m × ((t : Tree) → Raises m t → ⊥))
+    ((f ≡ at_no_line Module) × ((m : Parts) → HasModule bytes m → ⊥))
+    ⊎ ((f ≡ at_no_line Unverified) × (m : Parts) × HasModule bytes m × ((t : Tree) → Raises m t → ⊥))
 
 -- What the bytes of a module are. Programs that raise one module are the same but for lines that no run tells, so it may mean several.
 abbrev pub MeansModule : List ℕ → Meaning → Type 0

@@ -10,7 +10,7 @@ use rg_base::{Fault, Trap};
 pub enum Status {
     /// 0: the program is done, or the command's text is written
     Done,
-    /// 1: the source has that fault
+    /// 1: the source, or the module, has that fault
     Refused(Fault),
     /// 2: the words are no command
     Usage,
@@ -26,7 +26,7 @@ pub enum Status {
     OutputFault,
     /// 8: no memory was found
     Memory,
-    /// 9: the source has more than 1,048,576 bytes
+    /// 9: the source has more than 1,048,576 bytes, or the module more than 16,777,216
     Long,
 }
 
