@@ -3,15 +3,16 @@ use Rattle.std.proofs.Common.{◌≡◌, ◌≤◌, ◌⊎◌, ℕ, inl, refl, �
 use Rattle.rg_io.specs.Content.{Rose}
 use Rattle.rg_io.proofs.Content.{Rose-since}
 use Rattle.rg_run.specs.Machine.{Kept}
-use Rattle.rg_top.specs.declared.status.Status.TheVariants as status
-use Rattle.rg_top.specs.Commands.{texts}
-use Rattle.rg_top.specs.Inner.Requests.{command_for}
-use Rattle.rg_top.specs.Inner.Settled.{Chooses}
-use Rattle.rg_top.proofs.Answer.{Answered, answer-answered, answer-cut, answer-input, answer-exactly, answer-refused, answer-complete}
-use Rattle.rg_top.proofs.Answer.{answer-unread, answer-unopened, answer-untouched, answer-output, answer-tuned, answer-usage, given-is}
-use Rattle.rg_top.proofs.Answer.{answer-chooses, tuned-moved, answer-may, settles-moved, usage-exactly}
+use Rattle.rg_words.specs.declared.status.Status.TheVariants as status
+use Rattle.rg_words.specs.Commands.{texts}
+use Rattle.rg_words.specs.Requests.{command_for}
+use Rattle.rg_commands.specs.Settled.{Chooses}
+use Rattle.rg_top.proofs.Answer.{Answered, answer-answered, answer-cut, answer-input, answer-exactly, answer-refused, answer-complete, answer-unread}
+use Rattle.rg_top.proofs.Answer.{answer-unopened, answer-untouched, answer-output, answer-tuned, answer-usage, given-is, answer-chooses, tuned-moved}
+use Rattle.rg_top.proofs.Answer.{answer-may, settles-moved, usage-exactly}
 use Rattle.rg_top.proofs.NoteLines.{asked-notes, asked-fault, unasked-notes, took-moved}
-use Rattle.rg_top.proofs.Asked.{asked-words, asked-moved, yeses-fresh}
+use Rattle.rg_top.proofs.Asked.{asked-words, asked-moved}
+use Rattle.rg_commands.proofs.Asked.{yeses-fresh}
 use Rattle.rg_top.proofs.top.reggio.Given.{Over}
 use Rattle.rg_top.proofs.top.reggio.Goals as goal
 

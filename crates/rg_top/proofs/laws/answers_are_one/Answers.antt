@@ -1,5 +1,0 @@
-use Rattle.rg_top.proofs.Meaning.{one-answer}
-use Rattle.rg_top.proofs.laws.answers_are_one.Goals as goal
-
-pub returns : goal.returns
-returns c = one-answer c.raised_alike.ensures c.same_runs.ensures c.at_most_one_module.ensures
