@@ -55,7 +55,7 @@ NO_MEMORY = {
     "rg_step": "Stepper::new Stepper::heap Stepper::frames Stepper::events Stepper::numbers",
     "rg_input": "*",
     "rg_run": "Machine::new Machine::is_fresh Machine::events Machine::numbers",
-    "rg_top": "shape Status::number",
+    "rg_words": "shape Status::number",
 }
 HEAD = """# All calls, with what each refuses
 
