@@ -87,7 +87,7 @@ no-program-one one bytes e f (inr h) (inl k) = absurd (k.1 h.1 h.2)
 no-program-one one bytes e f (inr h) (inr k) = h.0 ∙ sym k.0
 
 -- and none raises it
-no-program : SpellsOneModule → (bytes : List ℕ) (f : Fault) (m : Parts) (t : Tree) → IsNoProgram bytes f → HasModule bytes m → Raises m t → ⊥
+pub no-program : SpellsOneModule → (bytes : List ℕ) (f : Fault) (m : Parts) (t : Tree) → IsNoProgram bytes f → HasModule bytes m → Raises m t → ⊥
 no-program one bytes f m t (inl h) has raises = h.1 m has
 no-program one bytes f m t (inr h) has raises =
     let P : Parts → Type 0 = λ q. Raises q t in h.3 t (subst P (one bytes m h.1 has h.2) raises)
