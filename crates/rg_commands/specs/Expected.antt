@@ -60,7 +60,7 @@ HasModule bytes m = modules.Spells bytes m
 
 -- a fault of a module, which has no lines
 abbrev pub at_no_line : Code → Fault
-at_no_line code = record { code = code; line = 0 }
+at_no_line c = record { code = c; line = 0 }
 
 -- bytes that spell no module have one fault, and those of a module that no program raises another
 abbrev pub IsNoProgram : List ℕ → Fault → Type 0
