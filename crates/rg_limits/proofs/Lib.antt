@@ -1,1 +1,5 @@
--- Lemmas of this crate.
+-- Lemmas on what is counted down, on lists, on brackets, and on lines; and examples.
+mod Leaving
+mod Telling
+mod Opened
+mod Examples

@@ -2,7 +2,7 @@
 //! "Limits"). Each function answers how many names are left, and nothing where there are more than
 //! that or where a statement has too many signs or a number that is too small.
 
-ghost use Rattle.std.specs.Prelude.{◌<◌, length, IfSome};
+ghost use Rattle.std.specs.Prelude.{◌<◌, ⊤, length, IfSome};
 ghost use Rattle.rg_tree.specs.Rows.RowTrees.{block_of, else_over, stmt_at};
 ghost use Rattle.rg_tree.specs.Rows.RowsExist.{IsBlockIn};
 ghost use Rattle.rg_rules.specs.Names.{block_names, else_names, stmt_names};

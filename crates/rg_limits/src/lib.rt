@@ -6,13 +6,9 @@
 //! else in the crate is private.
 #![tactic(auto)]
 
-mod blocks;
-mod bodies;
-mod expressions;
-mod laws;
-mod open;
-mod statements;
-mod whole;
+pub mod blocks;
+pub mod bodies;
+pub mod expressions;
+pub mod brackets;
+pub mod statements;
 
-pub use laws::{limits_are_lineless, limits_bound};
-pub use whole::is_within_limits;

@@ -2,21 +2,21 @@
 
 ghost use Rattle.std.specs.Prelude.{◌≡◌, ◌≤◌};
 ghost use Rattle.rg_base.specs.declared.limits.TheConstants.{BRACKETS};
-ghost use Rattle.rg_limits.specs.Brackets as brackets;
+ghost use Rattle.rg_limits.specs.Brackets as rules;
 ghost use Rattle.rg_limits.specs.Brackets.{most_open};
 ghost use Rattle.rg_limits.specs.Inner.Telling.{Tells};
 
 use rg_base::BRACKETS;
 
 // How many brackets are open behind a byte.
-fn open_behind(byte: u8, open: usize) -> usize
-    requires { open ≤ BRACKETS }
-    ensures { result ≡ brackets.open_behind byte open }
+fn open_behind(byte: u8, count: usize) -> usize
+    requires { count ≤ BRACKETS }
+    ensures { result ≡ rules.open_behind byte count }
 {
     match byte {
-        b'{' | b'(' | b'[' => open + 1,
-        b'}' | b')' | b']' => open.saturating_sub(1),
-        _ => open,
+        b'{' | b'(' | b'[' => count + 1,
+        b'}' | b')' | b']' => count.saturating_sub(1),
+        _ => count,
     }
 }
 
@@ -24,10 +24,10 @@ fn open_behind(byte: u8, open: usize) -> usize
 pub fn opens_few(text: &[u8]) -> bool
     ensures { Tells result (most_open text.now ≤ BRACKETS) }
 {
-    let mut open = 0;
+    let mut count = 0;
     for byte in text {
-        open = open_behind(*byte, open);
-        if open > BRACKETS {
+        count = open_behind(*byte, count);
+        if count > BRACKETS {
             return false;
         }
     }
