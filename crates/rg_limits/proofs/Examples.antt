@@ -63,5 +63,5 @@ the_next_is_not = omega arith
 three_open : most_open (codes "{(a[b]+c)}()") ≡ 3
 three_open = refl
 
-in_a_text : most_open (canon (main (next (stmt 1 (print (binary Mul (binary Add one one) (element x one)))) empty))) ≡ 2
+in_a_text : most_open (canon (main (next (stmt 1 (print (binary Mul (binary Or (boolean true) (boolean true)) (element x (boolean true))))) empty))) ≡ 2
 in_a_text = refl

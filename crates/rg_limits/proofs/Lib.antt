@@ -2,4 +2,5 @@
 mod Leaving
 mod Telling
 mod Opened
+mod Lineless
 mod Examples

@@ -6,4 +6,5 @@ pub mod Signs
 pub mod Numbers
 pub mod Brackets
 pub mod Limits
+pub mod Laws
 pub mod Inner

@@ -6,9 +6,13 @@
 //! else in the crate is private.
 #![tactic(auto)]
 
-pub mod blocks;
-pub mod bodies;
-pub mod expressions;
-pub mod brackets;
-pub mod statements;
+mod blocks;
+mod bodies;
+mod brackets;
+mod expressions;
+mod laws;
+mod statements;
+mod whole;
 
+pub use laws::{limits_are_lineless, limits_bound};
+pub use whole::is_within_limits;
