@@ -46,7 +46,7 @@ methods-same (field f ∷ ms) = methods-same ms
 methods-same (method m ∷ ms) = ap (λ r. method_unlined m ∷ r) (methods-same ms)
 
 methods-long : (ms : List Member) → length (filter_map method_member (map member_unlined ms)) ≡ length (filter_map method_member ms)
-methods-long ms = ap length (methods-same ms) ∙ length-map method_unlined (filter_map method_member ms)
+methods-long ms = ap length (methods-same ms) ∙ length-map (filter_map method_member ms) method_unlined
 
 -- a method has few parameters
 abbrev HasFewParams : Method → Type 0
@@ -70,13 +70,13 @@ members-from c h = record {
 
 parts-to : (t : Tree) → HasFewParts t → HasFewParts (unlined t)
 parts-to t h = record {
-  classes = subst (λ (n : ℕ). n ≤ CLASSES) (sym (length-map class_unlined t.classes)) h.classes;
+  classes = subst (λ (n : ℕ). n ≤ CLASSES) (sym (length-map t.classes class_unlined)) h.classes;
   members = recursion-to HasFewMembers HasFewMembers class_unlined members-to t.classes h.members;
 }
 
 parts-from : (t : Tree) → HasFewParts (unlined t) → HasFewParts t
 parts-from t h = record {
-  classes = subst (λ (n : ℕ). n ≤ CLASSES) (length-map class_unlined t.classes) h.classes;
+  classes = subst (λ (n : ℕ). n ≤ CLASSES) (length-map t.classes class_unlined) h.classes;
   members = recursion-from HasFewMembers HasFewMembers class_unlined members-from t.classes h.members;
 }
 
