@@ -1,0 +1,5 @@
+use Rattle.std.proofs.Common.{refl}
+use Rattle.rg_limits.proofs.laws.limits_bound.Goals as goal
+
+pub returns : goal.returns
+returns c = λ t h. h.standin t refl

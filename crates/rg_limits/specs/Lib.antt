@@ -1,0 +1,4 @@
+-- STAND-IN.
+pub mod Depth
+pub mod Limits
+pub mod Laws

@@ -1,0 +1,20 @@
+//! STAND-IN.
+
+ghost use Rattle.std.specs.Prelude.{◌≡◌, IfOk};
+ghost use Rattle.rg_base.specs.declared.limits.TheConstants.{BRACKETS};
+ghost use Rattle.rg_tree.specs.Rows.RowTrees.{program_of};
+ghost use Rattle.rg_limits.specs.Depth.{IsShallow};
+ghost use Rattle.rg_limits.specs.Limits.{HasFewParts, TellsWithin};
+
+use rg_base::Memory;
+use rg_tree::Program;
+use std::alloc::Global;
+
+/// Whether.
+pub fn is_within_limits(alloc: Global, program: &Program) -> Result<bool, Memory>
+    requires parts { HasFewParts (program_of program.now) }
+    requires depth { IsShallow BRACKETS (program_of program.now) }
+    ensures { IfOk result (λ b. TellsWithin b (program_of program.now)) }
+{
+    Err(Memory)
+}
