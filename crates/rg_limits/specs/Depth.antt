@@ -1,4 +1,4 @@
--- How many blocks stand in one another in a program (docs/architecture.md, "Modules").
+-- How many blocks stand in one another in a program (docs/language.md, "Limits").
 use Rattle.std.specs.Prelude.{ℕ, suc, ◌≤◌, max, List, [], ◌∷◌}
 use Rattle.rg_tree.specs.Tree.{stmt, StmtKind, declare, assign, assign_element, call, swap, branch, while, enter, print, collect, return}
 use Rattle.rg_tree.specs.Tree.{Else, no_else, otherwise, Block, empty, then as next, Member, field, method, Class, Tree}

@@ -1,29 +1,26 @@
--- STAND-IN.
-use Rattle.std.specs.Prelude.{◌≤◌, Bool as Truth, true, false, length, filter_map}
-use Rattle.std.specs.List.{AllByRecursion}
-use Rattle.rg_base.specs.declared.limits.TheConstants.{BRACKETS, CLASSES, CLASS_FIELDS, CLASS_METHODS, PARAMETERS}
-use Rattle.rg_tree.specs.Tree.{Method, Class, Tree}
-use Rattle.rg_rules.specs.Types.{field_member, method_member}
+-- The programs that pass no limit of a source, by their tree and their canonical text (docs/language.md, "Limits"). Two limits aren't said: that
+-- on the bytes of a source, since a module isn't one, and that on the bytes of a name, since a program that is raised has numbers for names.
+use Rattle.std.specs.Prelude.{◌≤◌}
+use Rattle.rg_base.specs.declared.limits.TheConstants.{BRACKETS}
+use Rattle.rg_tree.specs.Tree.{Tree}
+use Rattle.rg_tree.specs.Canonical.{canon}
 use Rattle.rg_rules.specs.Names.{FewNames}
 use Rattle.rg_lines.specs.Unlined.{SameButLines}
+use Rattle.rg_limits.specs.Parts.{HasFewParts}
 use Rattle.rg_limits.specs.Depth.{IsShallow}
+use Rattle.rg_limits.specs.Signs.{HasFewSigns}
+use Rattle.rg_limits.specs.Numbers.{HasSmallNumbers}
+use Rattle.rg_limits.specs.Brackets.{most_open}
 
--- a class has no more fields and methods than it may, and its methods no more parameters
-pub record HasFewMembers (c : Class) : Type 0 where
-  pub fields : length (filter_map field_member c.members) ≤ CLASS_FIELDS
-  pub methods : length (filter_map method_member c.members) ≤ CLASS_METHODS
-  pub params : AllByRecursion (λ (m : Method). length m.params ≤ PARAMETERS) (filter_map method_member c.members)
-
--- a program has no more classes than it may, and its classes are such
-pub record HasFewParts (t : Tree) : Type 0 where
-  pub classes : length t.classes ≤ CLASSES
-  pub members : AllByRecursion HasFewMembers t.classes
-
--- stand-in
+-- A program has no more classes, fields, methods, parameters, names and signs than it may, and no number that no source can write. Its blocks
+-- and the brackets of its text are no deeper than they may be. The `{` of a block is such a bracket, so the depth of blocks says more only where a
+-- name has a bracket in it, which no source has.
 pub record IsWithinLimits (t : Tree) : Type 0 where
+  pub parts : HasFewParts t
   pub names : FewNames t
-  pub standin : (u : Tree) → SameButLines t u → HasFewParts u × IsShallow BRACKETS u
-
-abbrev pub TellsWithin : Truth → Tree → Type 0
-TellsWithin true t = IsWithinLimits t
-TellsWithin false t = IsWithinLimits t → ⊥
+  pub signs : HasFewSigns t
+  pub numbers : HasSmallNumbers t
+  pub depth : IsShallow BRACKETS t
+  pub brackets : most_open (canon t) ≤ BRACKETS
+  -- STAND-IN
+  pub standin : (u : Tree) → SameButLines t u → HasFewParts u × HasFewSigns u × HasSmallNumbers u × IsShallow BRACKETS u × (most_open (canon u) ≤ BRACKETS)

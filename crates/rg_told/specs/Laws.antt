@@ -4,7 +4,7 @@ use Rattle.std.specs.Prelude.{◌≡◌, Some}
 use Rattle.rg_base.specs.declared.limits.TheConstants.{BRACKETS}
 use Rattle.rg_tree.specs.Tree.{Tree}
 use Rattle.rg_limits.specs.Depth.{IsShallow}
-use Rattle.rg_limits.specs.Limits.{HasFewParts}
+use Rattle.rg_limits.specs.Parts.{HasFewParts}
 use Rattle.rg_module.specs.Parts.{Parts}
 use Rattle.rg_raised.specs.Raises.{IsNumbered}
 use Rattle.rg_raised.specs.Told.{program_told}
