@@ -1,1 +1,7 @@
--- STAND-IN.
+-- Lemmas on what is counted down, on lists, on brackets, on what is tested together, and on lines; and examples.
+mod Leaving
+mod Telling
+mod Opened
+mod Together
+mod Lineless
+mod Examples

@@ -5,7 +5,6 @@ use Rattle.rg_base.specs.declared.limits.TheConstants.{BRACKETS}
 use Rattle.rg_tree.specs.Tree.{Tree}
 use Rattle.rg_tree.specs.Canonical.{canon}
 use Rattle.rg_rules.specs.Names.{FewNames}
-use Rattle.rg_lines.specs.Unlined.{SameButLines}
 use Rattle.rg_limits.specs.Parts.{HasFewParts}
 use Rattle.rg_limits.specs.Depth.{IsShallow}
 use Rattle.rg_limits.specs.Signs.{HasFewSigns}
@@ -22,5 +21,3 @@ pub record IsWithinLimits (t : Tree) : Type 0 where
   pub numbers : HasSmallNumbers t
   pub depth : IsShallow BRACKETS t
   pub brackets : most_open (canon t) ≤ BRACKETS
-  -- STAND-IN
-  pub standin : (u : Tree) → SameButLines t u → HasFewParts u × HasFewSigns u × HasSmallNumbers u × IsShallow BRACKETS u × (most_open (canon u) ≤ BRACKETS)

@@ -1,15 +1,17 @@
-//! STAND-IN.
+//! The laws of programs that pass no limit, as contracts of functions that do nothing
+//! (docs/language.md, "Limits").
 
 ghost use Rattle.rg_limits.specs.Laws.{LimitsBound, LimitsAreLineless};
 
-/// bound
+/// Such a program has few parts, and its blocks are no deeper than brackets may be.
 pub fn limits_bound()
     ensures { LimitsBound }
 {}
 
-/// lineless
+/// A program that is the same but for lines that no mark has is such a program, too.
 pub fn limits_are_lineless()
     ensures { LimitsAreLineless }
 {
+    rg_lines::same_text();
     rg_lines::same_names();
 }

@@ -8,6 +8,8 @@ ghost use Rattle.rg_limits.specs.Depth.{IsShallow};
 ghost use Rattle.rg_limits.specs.Limits.{IsWithinLimits};
 ghost use Rattle.rg_limits.specs.Inner.Telling.{Tells};
 
+use crate::bodies::{are_classes_fine, is_main_fine};
+use crate::brackets::opens_few;
 use rg_base::Memory;
 use rg_tree::Program;
 use std::alloc::Global;
@@ -19,5 +21,12 @@ pub fn is_within_limits(alloc: Global, program: &Program) -> Result<bool, Memory
     requires depth { IsShallow BRACKETS (program_of program.now) }
     ensures { IfOk result (λ b. Tells b (IsWithinLimits (program_of program.now))) }
 {
-    Err(Memory)
+    if !are_classes_fine(program) {
+        return Ok(false);
+    }
+    if !is_main_fine(program) {
+        return Ok(false);
+    }
+    let text = rg_print::text(alloc, program)?;
+    Ok(opens_few(text.bytes()))
 }
