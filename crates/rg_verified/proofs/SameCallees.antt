@@ -1,5 +1,5 @@
 -- The methods of a program, as calls need them, are those of the heads of its methods.
-use Rattle.std.proofs.Common.{◌≡◌, sym, ap, ◌∙◌, ℕ, suc, ◌+◌, List, [], ◌∷◌, ◌++◌, length, arith}
+use Rattle.std.proofs.Common.{◌≡◌, refl, sym, ap, ◌∙◌, ℕ, suc, ◌+◌, List, [], ◌∷◌, ◌++◌, length, arith}
 use Rattle.rg_tree.specs.Tree.{Member, field, method, Class}
 use Rattle.rg_rules.specs.Types.{method_result}
 use Rattle.rg_code.specs.Lowering.{methods_among}
