@@ -1,18 +1,14 @@
 -- Worked examples of the limits: a small program inside, and one past each.
-use Rattle.std.proofs.Common.{◌≡◌, refl, ℕ, zero, suc, ◌+◌, ◌≤◌, ℤ, pos, negsuc, List, [], ◌∷◌, codes, Option, Some, None, All, true, false, arith}
-use Rattle.std.specs.Prelude.{⊤}
-use Rattle.rg_base.specs.declared.words.Cap.TheVariants.{Mut}
+use Rattle.std.proofs.Common.{◌≡◌, refl, ℕ, zero, suc, pos, negsuc, [], ◌∷◌, codes, Some, true, false, arith}
 use Rattle.rg_base.specs.declared.words.Manager.TheVariants.{Arena}
-use Rattle.rg_base.specs.declared.limits.TheConstants.{BRACKETS, BODY_NAMES, STATEMENT_SIGNS, GREATEST_NUMBER}
 use Rattle.rg_tree.specs.declared.rows.BinOp.TheVariants.{Or, And, Eq, Add, Mul}
-use Rattle.rg_tree.specs.Tree.{Expr, number, boolean, neg, not, binary, element, path, is_nil, int, value, stmt, StmtKind, declare, assign}
-use Rattle.rg_tree.specs.Tree.{assign_element, call, branch, while, enter, print, no_else, otherwise, Block, empty, then as next, Tree, Path}
+use Rattle.rg_tree.specs.Tree.{Expr, number, boolean, neg, not, binary, element, is_nil, value, stmt}
+use Rattle.rg_tree.specs.Tree.{assign_element, call, while, print, Block, empty, then as next, Tree, Path}
 use Rattle.rg_tree.specs.Canonical.{canon}
-use Rattle.rg_limits.specs.Each.{own_exprs, HoldsOfEach}
-use Rattle.rg_limits.specs.Signs.{expr_signs, exprs_signs, HasFewOwnSigns, HasFewSigns}
-use Rattle.rg_limits.specs.Numbers.{HasSmall, HasSmallNumbers}
-use Rattle.rg_limits.specs.Brackets.{most_open, most_open_from}
-use Rattle.rg_limits.specs.Depth.{block_levels}
+use Rattle.rg_limits.specs.Each.{own_exprs}
+use Rattle.rg_limits.specs.Signs.{expr_signs, exprs_signs, HasFewSigns}
+use Rattle.rg_limits.specs.Numbers.{HasSmall}
+use Rattle.rg_limits.specs.Brackets.{most_open}
 
 abbrev one : Expr
 one = number (pos 1)

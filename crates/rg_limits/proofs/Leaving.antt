@@ -1,8 +1,8 @@
 -- What is left behind the parts of a list, counted down.
-use Rattle.std.proofs.Common.{◌≡◌, ℕ, suc, ◌+◌, ◌-◌, ◌≤◌, ◌<◌, Bool as Truth, true, false, Option, Some, None, List, [], ◌∷◌, drop, map, get_or, length}
-use Rattle.std.proofs.Common.{refl, sym, subst, arith}
+use Rattle.std.proofs.Common.{ℕ, ◌+◌, ◌≤◌, ◌<◌, Option, Some, None, List, [], ◌∷◌, drop, map, get_or, length}
+use Rattle.std.proofs.Common.{subst, arith}
 use Rattle.std.proofs.lemmas.List.{drop_more, drop_all}
-use Rattle.std.specs.Prelude.{is_some, ⊤}
+use Rattle.std.specs.Prelude.{⊤}
 use Rattle.std.specs.List.{AllByRecursion}
 use Rattle.rg_tree.specs.Tree.{Expr, Stmt, stmt, Block, then as next}
 use Rattle.rg_tree.specs.Rows.RowTrees.{block_over}
@@ -10,7 +10,7 @@ use Rattle.rg_rules.specs.Names.{stmt_names, block_names}
 use Rattle.rg_limits.specs.Each.{HoldsInBlock}
 use Rattle.rg_limits.specs.Signs.{expr_signs, exprs_signs}
 use Rattle.rg_limits.specs.Numbers.{HasSmall}
-use Rattle.rg_limits.specs.Inner.Telling.{Tells, Leaves}
+use Rattle.rg_limits.specs.Inner.Telling.{Leaves}
 use Rattle.rg_limits.specs.Inner.Fine.{IsFine, IsStmtFine}
 
 -- what is left behind two parts
@@ -22,24 +22,9 @@ both left rest a b P Q None one two = λ fits holds. two (omega (arith, one.0, f
 pub first-fails : (left a b : ℕ) (P Q : Type 0) → Leaves left a P None → Leaves left (a + b) (P × Q) None
 first-fails left a b P Q one = λ fits holds. one (omega (arith, fits)) holds.0
 
--- where the whole is said otherwise
-pub Leaves-same : (left a b : ℕ) (P Q : Type 0) (o : Option ℕ) → a ≡ b → (P → Q) → (Q → P) → Leaves left a P o → Leaves left b Q o
-Leaves-same left a b P Q (Some r) e to from h = (omega (arith, e, h.0), to h.1)
-Leaves-same left a b P Q None e to from h = λ fits holds. h (omega (arith, e, fits)) (from holds)
-
 -- nothing is taken
 pub Leaves-all : (left : ℕ) → Leaves left 0 ⊤ (Some left)
 Leaves-all left = (omega arith, tt)
-
--- a condition that is tested beside
-pub beside : (left a : ℕ) (P Q : Type 0) (o : Option ℕ) → P → Leaves left a Q o → Leaves left a (P × Q) o
-beside left a P Q (Some r) p h = (h.0, (p, h.1))
-beside left a P Q None p h = λ fits holds. h fits holds.1
-
--- whether something is left
-pub tells-left : (left a : ℕ) (P : Type 0) (o : Option ℕ) → Leaves left a P o → Tells (is_some o) ((a ≤ left) × P)
-tells-left left a P (Some r) h = (omega (arith, h.0), h.1)
-tells-left left a P None h = λ w. h w.0 w.1
 
 -- Lists. What the rest of a list leaves of what is left in front of it, the whole leaves.
 abbrev pub GoesOn : (taken : List ℕ → ℕ) (Fine : List ℕ → Type 0) (rest : List ℕ) (now : ℕ) (whole : List ℕ) (left : ℕ) → Type 0
@@ -52,7 +37,7 @@ ByFirst taken Fine one FineOne =
     → Leaves left (taken (k ∷ ks)) (Fine (k ∷ ks)) o
 
 module _ (taken : List ℕ → ℕ) (Fine : List ℕ → Type 0) (one : ℕ → ℕ) (FineOne : ℕ → Type 0) (first : ByFirst taken Fine one FineOne)
-         (xs whole : List ℕ) (i now left : ℕ) where
+    (xs whole : List ℕ) (i now left : ℕ) where
   pub goes-on : (behind : ℕ) → i < length xs → GoesOn taken Fine (drop i xs) now whole left
       → Leaves now (one (get_or xs i 0)) (FineOne (get_or xs i 0)) (Some behind) → GoesOn taken Fine (drop (i + 1) xs) behind whole left
   goes-on behind l h here o there =

@@ -1,11 +1,10 @@
 -- The limits say the same of a program without the lines that no mark has.
-use Rattle.std.proofs.Common.{◌≡◌, refl, sym, ap, ◌∙◌, subst, ℕ, suc, ◌≤◌, List, [], ◌∷◌, length, map, filter_map, Option, Some, None, All}
+use Rattle.std.proofs.Common.{◌≡◌, refl, sym, ap, ◌∙◌, subst, ℕ, suc, ◌≤◌, List, [], ◌∷◌, length, map, filter_map, All}
 use Rattle.std.specs.List.{AllByRecursion}
 use Rattle.std.proofs.lemmas.List.{length-map}
 use Rattle.std.proofs.lemmas.List.Elements.{recursion_from_All, All-from_recursion}
 use Rattle.rg_base.specs.declared.limits.TheConstants.{BRACKETS, CLASSES, CLASS_FIELDS, CLASS_METHODS, PARAMETERS}
 use Rattle.rg_tree.specs.Tree.{StmtKind, Method, Member, field, method, Class, Tree}
-use Rattle.rg_tree.specs.Canonical.{canon}
 use Rattle.rg_rules.specs.Types.{field_member, method_member}
 use Rattle.rg_lines.specs.Unlined.{method_unlined, member_unlined, class_unlined, classes_unlined, unlined, SameButLines}
 use Rattle.rg_lines.specs.Laws.{SameText, SameNames}
@@ -13,7 +12,6 @@ use Rattle.rg_limits.specs.Parts.{HasFewMembers, HasFewParts}
 use Rattle.rg_limits.specs.Depth.{AreMembersShallow, AreClassesShallow, IsShallow}
 use Rattle.rg_limits.specs.Each.{HoldsInMember, HoldsOfEach}
 use Rattle.rg_limits.specs.Brackets.{most_open}
-use Rattle.rg_limits.specs.Limits.{IsWithinLimits}
 use Rattle.rg_limits.specs.Laws.{LimitsAreLineless}
 
 -- Of each element of a list, and of what is made of it

@@ -1,5 +1,5 @@
 -- What is known of the brackets of a text, byte by byte.
-use Rattle.std.proofs.Common.{◌≡◌, ℕ, ◌+◌, ◌≤◌, ◌<◌, max, List, [], ◌∷◌, drop, subst, arith}
+use Rattle.std.proofs.Common.{◌≡◌, ℕ, ◌≤◌, ◌<◌, List, [], ◌∷◌, subst, arith}
 use Rattle.rg_base.specs.declared.limits.TheConstants.{BRACKETS}
 use Rattle.rg_limits.specs.Brackets.{open_behind, most_open_from, most_open}
 

@@ -9,7 +9,7 @@ use Rattle.rg_tree.specs.Canonical.{canon}
 use Rattle.rg_rules.specs.Names.{block_names, HasFewNames}
 use Rattle.rg_limits.specs.Parts.{HasFewParts}
 use Rattle.rg_limits.specs.Depth.{IsShallow}
-use Rattle.rg_limits.specs.Each.{HoldsWithin, HoldsBehind, HoldsInBlock, HoldsInMember, HoldsOfEach}
+use Rattle.rg_limits.specs.Each.{HoldsWithin, HoldsBehind, HoldsInBlock, HoldsInMember}
 use Rattle.rg_limits.specs.Signs.{HasFewOwnSigns}
 use Rattle.rg_limits.specs.Numbers.{HasOwnSmall}
 use Rattle.rg_limits.specs.Brackets.{most_open}

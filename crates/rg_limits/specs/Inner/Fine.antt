@@ -1,7 +1,7 @@
 -- What the limits say of statements and bodies, without brackets.
-use Rattle.std.specs.Prelude.{ℕ, ⊤}
+use Rattle.std.specs.Prelude.{ℕ}
 use Rattle.std.specs.List.{AllByRecursion}
-use Rattle.rg_tree.specs.Tree.{Expr, Stmt, stmt, StmtKind, Member, Class}
+use Rattle.rg_tree.specs.Tree.{Stmt, stmt, StmtKind, Member, Class}
 use Rattle.rg_rules.specs.Names.{HasFewNames}
 use Rattle.rg_limits.specs.Each.{own_exprs, HoldsWithin, HoldsInMember}
 use Rattle.rg_limits.specs.Signs.{exprs_signs, HasFewOwnSigns}

@@ -1,6 +1,4 @@
-use Rattle.std.proofs.Common.{◌<◌, subst}
 use Rattle.std.proofs.lemmas.List.{drop_more}
-use Rattle.rg_base.specs.declared.limits.TheConstants.{BRACKETS}
 use Rattle.rg_limits.proofs.Opened.{opens-too-many}
 use Rattle.rg_limits.proofs.brackets.opens_few.Goals as goal
 
