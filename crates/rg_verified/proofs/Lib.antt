@@ -3,7 +3,6 @@ mod Alike
 mod Back
 mod BodyCode
 mod Endings
-mod Exits
 mod Fits
 mod Found
 mod Levels
@@ -11,6 +10,5 @@ mod Names
 mod Raised
 mod SameCallees
 mod Tables
-mod ToldBounded
-mod TreeNumbered
+mod Verdicts
 mod Written

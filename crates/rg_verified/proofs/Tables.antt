@@ -13,8 +13,8 @@ use Rattle.rg_spell.specs.declared.rows.Head.{Head}
 use Rattle.rg_build.specs.ModuleOf.{field_types, shape_of, shapes_of, head_of, member_heads, class_heads, heads_of}
 use Rattle.rg_classes.specs.Order.{place_of, takes_methods, may_follow, are_ordered, have_few_fields, are_tables}
 use Rattle.rg_raised.specs.Raises.{AreMembers, AreClassesNumbered, IsNumbered}
-use Rattle.rg_verified.specs.Told.{HasFewMembers, HasFewParts}
-use Rattle.rg_verified.proofs.SameCallees.{Fresh, other-class, own-class, first-class}
+use Rattle.rg_limits.specs.Parts.{HasFewMembers, HasFewParts}
+use Rattle.rg_told.proofs.Places.{Fresh, other-class, own-class, first-class}
 
 -- Tests
 

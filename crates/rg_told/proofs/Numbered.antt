@@ -2,7 +2,7 @@
 use Rattle.std.proofs.Common.{◌≡◌, refl, sym, ap, subst, ℕ, zero, suc, ◌+◌, ◌==◌, Bool as Truth, true, false, if◌then◌else◌, List, [], ◌∷◌, ◌++◌}
 use Rattle.std.proofs.Common.{drop, length, Option, Some, None, option_map, arith}
 use Rattle.rg_base.specs.declared.ty.Ty.{Ty}
-use Rattle.rg_tree.specs.Tree.{Member, field, method}
+use Rattle.rg_tree.specs.Tree.{Member, field, method, Tree}
 use Rattle.rg_spell.specs.declared.rows.Shape.{Shape}
 use Rattle.rg_spell.specs.declared.rows.Head.{Head}
 use Rattle.rg_module.specs.Parts.{Parts}
@@ -16,7 +16,7 @@ use Rattle.rg_bodies.specs.Bodies.{RaisedBody, Bodies}
 use Rattle.rg_bodies.specs.Rows.{method_named, methods_named}
 use Rattle.rg_raised.specs.Raises.{slots_after, IsKindNumbered, IsElseNumbered, IsBlockNumbered, AreParamsNumbered, AreMethodsNumbered}
 use Rattle.rg_raised.specs.Raises.{AreMembersNumbered, AreMembers, AreClassesNumbered, IsNumbered}
-use Rattle.rg_raised.specs.Told.{tree_named}
+use Rattle.rg_raised.specs.Told.{module_told, tree_named, program_told}
 
 one-more : (n : ℕ) → n + 1 ≡ suc n
 one-more n = omega arith
@@ -138,5 +138,14 @@ classes-numbered k (s ∷ ss) hs bs =
           (classes-numbered (suc k) ss (drop n hs) (drop n bs)),
     )
 
-pub tree-numbered : (m : Parts) (x : Bodies) → IsNumbered (tree_named m x)
+tree-numbered : (m : Parts) (x : Bodies) → IsNumbered (tree_named m x)
 tree-numbered m x = record { classes = classes-numbered 0 m.classes m.methods x.methods; body = block-numbered false 0 x.main.block }
+
+-- What is told
+
+numbered_by : (m : Parts) (o : Option Bodies) (t : Tree) → option_map (tree_named m) o ≡ Some t → IsNumbered t
+numbered_by m None t e = grind arith
+numbered_by m (Some x) t e = let same : tree_named m x ≡ t = grind arith in subst IsNumbered same (tree-numbered m x)
+
+pub told-numbered : (m : Parts) (t : Tree) → program_told m ≡ Some t → IsNumbered t
+told-numbered m t e = numbered_by m (module_told m) t e

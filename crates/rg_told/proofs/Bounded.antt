@@ -23,10 +23,11 @@ use Rattle.rg_bodies.specs.Bodies.{RaisedBody, Bodies, bodies_told}
 use Rattle.rg_bodies.specs.Rows.{given_by, method_named, methods_named}
 use Rattle.rg_bodies.specs.Standing.{IsWithin, AreWithin, TellsBodies, BodiesAreTold}
 use Rattle.rg_raised.specs.Told.{tree_named, program_told}
-use Rattle.rg_verified.specs.Depth.{kind_levels, else_levels, block_levels, AreMembersShallow, AreClassesShallow, IsShallow}
-use Rattle.rg_verified.specs.Told.{HasFewMembers, HasFewParts, IsBounded}
-use Rattle.rg_verified.proofs.SameCallees.{Fresh, other-class, own-class, first-class}
-use Rattle.rg_verified.proofs.TreeNumbered.{params-long, drop-named}
+use Rattle.rg_limits.specs.Depth.{kind_levels, else_levels, block_levels, AreMembersShallow, AreClassesShallow, IsShallow}
+use Rattle.rg_limits.specs.Parts.{HasFewMembers, HasFewParts}
+use Rattle.rg_told.specs.Laws.{IsBounded}
+use Rattle.rg_told.proofs.Places.{Fresh, other-class, own-class, first-class}
+use Rattle.rg_told.proofs.Numbered.{params-long, drop-named}
 
 -- Depth
 
