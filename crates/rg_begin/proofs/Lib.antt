@@ -1,0 +1,1 @@
+-- The lemmas that the answers of rg_begin use; those with pub are for crates above.
