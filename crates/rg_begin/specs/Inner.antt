@@ -1,2 +1,3 @@
 -- What joins the private layers of this crate; no clause of a public call cites it.
 pub mod Laid
+pub mod First
