@@ -95,7 +95,13 @@ impl Machine {
     /// A machine over a heap and frames: nothing is on the stack, and nothing is printed.
     pub fn over(alloc: Global, heap: Heap, frames: Frames, at: usize) -> Machine
         requires { Stands heap frames }
-        ensures { result ≡ record { heap = heap; frames = frames; words = []; at = at; printed = None } }
+        ensures { result ≡ record {
+          heap = heap;
+          frames = frames;
+          words = [];
+          at = at;
+          printed = None;
+        } }
     {
         Machine {
             heap,
