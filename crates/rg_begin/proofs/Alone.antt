@@ -1,6 +1,7 @@
 -- The behaviour's object is the first one.
 use Rattle.std.proofs.Common.{◌≡◌, ◌≢◌, ◌<◌, ◌+◌, inl, inr, ℕ, zero, suc, List, [], ◌∷◌, ◌++◌, length, map, Option, Some, None, slice_get}
 use Rattle.std.proofs.Common.{slice_index_or, option_map, refl, sym, ap, ◌∙◌, subst, arith}
+use Rattle.std.proofs.Common.{Result, Ok, Err, IfOk}
 use Rattle.std.specs.List.{range_with_len}
 use Rattle.std.proofs.lemmas.Bool.{cases_eq}
 use Rattle.std.proofs.lemmas.Option.{none-some, same_Some}
@@ -27,6 +28,11 @@ use Rattle.rg_view.proofs.Callers.New.{made-plain}
 use Rattle.rg_view.proofs.Callers.Manager.{manager-of}
 use Rattle.rg_begin.specs.Inner.Laid.{start_value, Laid}
 use Rattle.rg_begin.specs.Inner.First.{Opens, FirstMade, main_frame}
+
+-- of one answer two facts give a third one
+pub both-ok : {A B : Type 0} {P Q R : A → Type 0} (r : Result A B) → IfOk r P → IfOk r Q → ((a : A) → P a → Q a → R a) → IfOk r R
+both-ok (Ok a) p q f = f a p q
+both-ok (Err b) p q f = tt
 
 -- the one window
 first-window : (key : ℕ) → Window

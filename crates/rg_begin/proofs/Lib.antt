@@ -5,3 +5,6 @@ mod Givens
 mod Owning
 mod Alone
 mod Standing
+mod Starting
+mod Beside
+pub mod Callers

@@ -49,7 +49,7 @@ use Rattle.rg_begin.proofs.Loaded.{slot-of, body-of, held-on, New, back, loaded-
 -- No temporaries
 
 -- no object of a content is a temporary
-content-label : (n r : ℕ) (gs : List Given) → AllMayCome gs → (i : ℕ) (o : Seen) (m : ℕ) → slice_get (content_objects n r gs) i ≡ Some o
+pub content-label : (n r : ℕ) (gs : List Given) → AllMayCome gs → (i : ℕ) (o : Seen) (m : ℕ) → slice_get (content_objects n r gs) i ≡ Some o
     → o.label ≡ Temp m → ⊥
 content-label n r gs may i o m at is =
     let b = content-back n r gs i o at in
@@ -105,6 +105,25 @@ module _ (p : Parts) (v : Stack) (slot class : ℕ) (given : List Given) (k : �
   regions-made =
       let many = ap length l.managers in
       omega (arith, many, managers-length p.regions, regions-many 1 (take k given))
+
+-- the object has as many fields as there are
+pub laid-width : (p : Parts) (v : Stack) (slot class : ℕ) (given : List Given) → AllMayCome given → Serials p.cells.heap
+    → Laid p v slot class given 0 → width (body_at p.cells.heap slot) ≡ length given
+laid-width p v slot class given may q l =
+    let b : Body = l.first.0 in
+    let object = object_with class given 0 in
+    let same : object_of p.cells.heap (Some b) ≡ object =
+    same_Some (object_of p.cells.heap (Some b)) object
+    (sym (shown p v slot class given 0 may q l slot b l.first.1)
+    ∙ ap (slice_get (object ∷ content_objects 1 1 [])) l.first.2) in
+    ap width l.first.1
+    ∙ sym (length-map b.fields (val_of p.cells.heap))
+    ∙ ap (λ (o : Seen). length o.fields) same
+    ∙ length-map given start_value
+
+pub next-laid : (p : Parts) (v : Stack) (slot class : ℕ) (given : List Given) (k : ℕ) → Laid p v slot class given (suc k)
+    → Laid p v slot class given (k + 1)
+next-laid p v slot class given k l = let e : suc k ≡ k + 1 = omega arith in subst (Laid p v slot class given) e l
 
 -- a field that holds a value goes on to the next one
 pub start-laid : (p : Parts) (v : Stack) (slot class : ℕ) (given : List Given) (k : ℕ) (w : Val) → slice_get given k ≡ Some (Start w)

@@ -32,7 +32,8 @@ use Rattle.rg_view.proofs.Callers.Frame.{map-nil, pushed-frames}
 use Rattle.rg_view.proofs.Callers.Manager.{manager-at}
 use Rattle.rg_view.proofs.Callers.Shown.{get-drop, get-take, body-held}
 use Rattle.rg_machine.specs.Stands.{Stands}
-use Rattle.rg_begin.specs.Begun.{begun_machine, FirstHeld}
+use Rattle.rg_begin.specs.Begun.{FirstHeld}
+use Rattle.rg_begin.specs.Inner.Shown.{begun_machine}
 use Rattle.rg_begin.specs.Inner.First.{main_frame, with_method}
 use Rattle.rg_begin.specs.Inner.Laid.{start_value, object_with, AllMayCome, Laid}
 use Rattle.rg_begin.proofs.Givens.{take-whole, drop-whole}
@@ -108,8 +109,8 @@ module _ (p : Parts) (key n a b m slot c d class : ℕ) (given : List Given) (ma
   }
 
   -- the object lies in region 0
-  lies : LiesIn p.cells.heap 0 slot
-  lies =
+  object-lies : LiesIn p.cells.heap 0 slot
+  object-lies =
       let o = shown p (main_frame key n a b) slot class given (length given) may q l slot l.first.0 l.first.1 in
       let store = object_with class given (length given) ∷ content_objects 1 1 (take (length given) given) in
       let same = same_Some (object_with class given (length given)) (object_of p.cells.heap (Some l.first.0))
@@ -131,7 +132,7 @@ module _ (p : Parts) (key n a b m slot c d class : ℕ) (given : List Given) (ma
     temps = λ s m is. absurd (none s m is);
     slots = λ j s r e lies behind.
         let same = one-leads n slot (m - 1) j s e in
-        let in-zero : LiesIn p.cells.heap 0 s = subst (LiesIn p.cells.heap 0) same lies in
+        let in-zero : LiesIn p.cells.heap 0 s = subst (LiesIn p.cells.heap 0) same object-lies in
         let zero : r ≡ 0 = region-same r 0 (sym lies ∙ in-zero) in
         let front = behind 0 (first-window key) refl (subst (HasNumber p.regions key) (sym zero) number) in
         absurd (omega (arith, front));
@@ -145,7 +146,7 @@ module _ (p : Parts) (key n a b m slot c d class : ℕ) (given : List Given) (ma
       record {
         slot = slot;
         first = l.first;
-        lies = lies;
+        lies = object-lies;
         key = key;
         region = r.0;
         there = r.1;
@@ -206,3 +207,25 @@ module _ (p : Parts) (key n a b m slot c d class : ℕ) (given : List Given) (ma
 
       frames : List Frame
       frames = framed (val.Obj 0 ∷ replicate (m - 1) val.Nil) (framed (replicate n val.Nil) [])
+
+-- the machine over a heap in which all contents have come, with the frame of the method
+pub record Whole (p : Parts) (v : Stack) (main_slots : ℕ) (e : Entry) (class : ℕ) (given : List Given) : Type 0 where
+  pub stands : Stands p v
+  pub shows : machine_of p v e.at ≡ begun_machine main_slots e class given
+  pub first : FirstHeld p
+
+pub whole : (p : Parts) (first last : Stack) (key n slot class : ℕ) (e : Entry) (given : List Given) → AllMayCome given → Serials p.cells.heap
+    → Grove p.cells p.regions → Laid p first slot class given (length given) → first ≡ main_frame key n first.frame_room first.slot_room
+    → last ≡ with_method first e.slots slot last.frame_room last.slot_room → Whole p last n e class given
+whole p first last key n slot class e given may q g l main own =
+    let a = first.frame_room in
+    let b = first.slot_room in
+    let c = last.frame_room in
+    let d = last.slot_room in
+    let laid = subst (λ (v : Stack). Laid p v slot class given (length given)) main l in
+    let frames : last ≡ both-frames key n a b e.slots slot c d = own ∙ ap (λ v. with_method v e.slots slot c d) main in
+    record {
+      stands = subst (Stands p) (sym frames) (begun-stands p key n a b e.slots slot c d class given may q g laid);
+      shows = ap (λ v. machine_of p v e.at) frames ∙ begun-shows p key n a b e.slots slot c d class given may q g laid e refl;
+      first = first-held p key n a b e.slots slot c d class given may q g laid;
+    }

@@ -1,39 +1,26 @@
 -- The machine with which a behaviour begins (docs/architecture.md, "How a behaviour begins").
-use Rattle.std.specs.Prelude.{◌≡◌, ℕ, ◌-◌, List, [], ◌∷◌, replicate, Some, None, slice_get}
-use Rattle.rg_base.specs.declared.object.Label.TheVariants.{Region}
+use Rattle.std.specs.Prelude.{◌≡◌, ℕ, List, [], Some, None}
 use Rattle.rg_base.specs.declared.words.Manager.TheVariants.{Arena}
-use Rattle.rg_base.specs.declared.value.Val.TheVariants.{Nil, Obj}
+use Rattle.rg_tree.specs.Tree.{Method, Tree}
 use Rattle.rg_cells.specs.Table.{HasSerial}
 use Rattle.rg_regions.specs.Table.{Record, record_at}
 use Rattle.rg_regions.specs.Reach.{LiesIn}
+use Rattle.rg_heap.specs.Parts.{Parts as HeapParts}
 use Rattle.rg_code.specs.Code.{Code}
-use Rattle.rg_code.specs.declared.code.Entry.{Entry}
-use Rattle.rg_stack.specs.Machine.{Machine}
-use Rattle.rg_heap.specs.Parts.{Parts}
-use Rattle.rg_machine.specs.Parts.{Parts as MachineParts, machine_in}
+use Rattle.rg_sound.specs.Fit.{Fit}
+use Rattle.rg_held.specs.Shown.{ShowsHeld}
+use Rattle.rg_machine.specs.Parts.{Parts, machine_in}
 use Rattle.rg_opening.specs.declared.given.Given.{Given}
-use Rattle.rg_opening.specs.Opening.{field_values, content_objects, content_managers}
+use Rattle.rg_opening.specs.Opening.{opening_of}
+use Rattle.rg_begin.specs.Starts.{Starts}
 
--- The object is the first one, in region 0, and behind it stand the contents of its fields. The method stands at its entry, with the object in its
--- first slot; main's frame is beneath it.
-abbrev pub begun_machine : (main_slots : ℕ) → Entry → (class : ℕ) → List Given → Machine
-begun_machine n e class given = record {
-  store = record { class = class; fields = field_values 1 given; label = Region 0 } ∷ content_objects 1 1 given;
-  frames = record { slots = Obj 0 ∷ replicate (e.slots - 1) Nil; back = 0 } ∷ record { slots = replicate n Nil; back = 0 } ∷ [];
-  windows = record { number = 0; region = 0; owner = None; base = 0 } ∷ [];
-  managers = Arena ∷ content_managers given;
-  windows_made = 1;
-  at = e.at;
-}
-
--- a machine is this one, for the method of a number
-pub record ShowsBegun (code : Code) (class method : ℕ) (given : List Given) (p : MachineParts) : Type 0 where
-  pub entry : Entry
-  pub there : slice_get code.entries method ≡ Some entry
-  pub shows : machine_in p ≡ begun_machine code.main_slots entry class given
+-- for each program that has the code, a machine shows all that it holds of the state in which the behaviour begins
+abbrev pub ShowsOpening : Code → (class method : ℕ) → List Given → Parts → Type 0
+ShowsOpening code class method given p = (t : Tree) (m : Method) → Starts t code class method m given
+    → Fit t (opening_of class m given) × ShowsHeld t.classes code (machine_in p) (opening_of class m given)
 
 -- The first object that was made is held: it lies in region 0, which is an arena.
-pub record FirstHeld (p : Parts) : Type 0 where
+pub record FirstHeld (p : HeapParts) : Type 0 where
   pub slot : ℕ
   pub first : HasSerial p.cells.heap slot 0
   pub lies : LiesIn p.cells.heap 0 slot
@@ -42,3 +29,8 @@ pub record FirstHeld (p : Parts) : Type 0 where
   pub there : record_at p.regions key ≡ Some region
   pub number : region.number ≡ 0
   pub arena : region.manager ≡ Arena
+
+-- nothing is on the stack, and nothing is printed
+pub record IsBare (p : Parts) : Type 0 where
+  pub words : p.words ≡ []
+  pub printed : p.printed ≡ None
