@@ -1,22 +1,19 @@
 -- The behaviour's object is the first one.
-use Rattle.std.proofs.Common.{◌≡◌, ◌≢◌, ◌<◌, ◌+◌, inl, inr, ℕ, zero, suc, List, [], ◌∷◌, ◌++◌, length, map, Option, Some, None, slice_get}
-use Rattle.std.proofs.Common.{slice_index_or, option_map, refl, sym, ap, ◌∙◌, subst, arith}
+use Rattle.std.proofs.Common.{◌≡◌, inl, inr, ℕ, List, [], ◌∷◌, ◌++◌, map, Option, Some, None}
+use Rattle.std.proofs.Common.{slice_index_or, option_map, refl, sym, ap, ◌∙◌, arith}
 use Rattle.std.proofs.Common.{Result, Ok, Err, IfOk}
 use Rattle.std.specs.List.{range_with_len}
 use Rattle.std.proofs.lemmas.Bool.{cases_eq}
 use Rattle.std.proofs.lemmas.Option.{none-some, same_Some}
 use Rattle.rg_base.specs.declared.object.Label.TheVariants.{Region}
-use Rattle.rg_base.specs.declared.object.Seen.{Seen}
-use Rattle.rg_base.specs.declared.words.Manager.{Manager}
 use Rattle.rg_base.specs.declared.words.Manager.TheVariants.{Arena}
-use Rattle.rg_base.specs.declared.value.Val.{Val}
 use Rattle.rg_base.specs.declared.value.Word.{Word}
 use Rattle.rg_base.specs.declared.value.Word.TheVariants as word
 use Rattle.rg_cells.specs.declared.cell.Body.{Body}
-use Rattle.rg_cells.specs.Table.{Heap, Table, body_in, body_at, field_at, Serials}
+use Rattle.rg_cells.specs.Table.{Heap, field_at, Serials}
 use Rattle.rg_regions.specs.Table.{Record, RegionTable, Added, fresh, record_at, HasNumber, IsKey, with_room}
 use Rattle.rg_frames.specs.declared.rows.Window.{Window}
-use Rattle.rg_frames.specs.Stack.{Stack, IsTop}
+use Rattle.rg_frames.specs.Stack.{IsTop}
 use Rattle.rg_heap.specs.Parts.{Parts, OnTop}
 use Rattle.rg_heap.specs.Answers.{AllLead}
 use Rattle.rg_heap.specs.Changes.{LeadsNowhere, OnActive, Makes, Rewritten, with_one}
@@ -27,7 +24,7 @@ use Rattle.rg_view.specs.Numbers.{Numbers, HasBridges}
 use Rattle.rg_view.proofs.Callers.New.{made-plain}
 use Rattle.rg_view.proofs.Callers.Manager.{manager-of}
 use Rattle.rg_begin.specs.Inner.Laid.{start_value, Laid}
-use Rattle.rg_begin.specs.Inner.First.{Opens, FirstMade, main_frame}
+use Rattle.rg_begin.specs.Inner.First.{main_frame}
 
 -- of one answer two facts give a third one
 pub both-ok : {A B : Type 0} {P Q R : A → Type 0} (r : Result A B) → IfOk r P → IfOk r Q → ((a : A) → P a → Q a → R a) → IfOk r R
@@ -92,8 +89,7 @@ module _ (p q : Parts) (start : RegionTable) (key n a b slot class : ℕ) (words
       | inl is ↦
           let same : with_room (joins.is (fresh start Arena) added.is).0 (with_one slot (fresh start Arena)) ≡ r =
           same_Some (with_room (joins.is (fresh start Arena) added.is).0 (with_one slot (fresh start Arena))) r
-          (sym region-there ∙ ap (record_at q.regions) (sym is) ∙ e) in
-          (
+          (sym region-there ∙ ap (record_at q.regions) (sym is) ∙ e) in (
             is,
             ap (λ (x : Record). x.number) (sym same) ∙ next,
             ap (λ (x : Record). x.manager) (sym same),

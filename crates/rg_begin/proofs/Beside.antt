@@ -1,8 +1,8 @@
 -- The machine with which a behaviour begins, beside itself: all that was made is held.
-use Rattle.std.proofs.Common.{◌≡◌, ◌≢◌, ◌<◌, ◌≤◌, ◌+◌, ◌-◌, ◌==◌, ◌⊎◌, inl, inr, ℕ, zero, suc, true, false, Bool as Truth, nat_lt, List, [], ◌∷◌, ◌++◌}
+use Rattle.std.proofs.Common.{◌≡◌, ◌≢◌, ◌<◌, ◌≤◌, ◌+◌, ◌-◌, ◌==◌, ◌⊎◌, inl, inr, ℕ, zero, suc, true, false, Bool as Truth, nat_lt, List, [], ◌∷◌}
 use Rattle.std.proofs.Common.{length, map, replicate, Option, Some, None, option_map, option_and_then, slice_get, refl, sym, ap, ◌∙◌, subst, arith}
 use Rattle.std.specs.Prelude.{◌||◌, not, if◌then◌else◌}
-use Rattle.std.proofs.lemmas.Bool.{cases_eq, cases_lt, eqb-true, eqb-false, or_cases, false≢true}
+use Rattle.std.proofs.lemmas.Bool.{eqb-true, or_cases, false≢true}
 use Rattle.std.proofs.lemmas.Option.{none-some, same_Some, slice_get_past, slice_get_within, slice_get-map}
 use Rattle.rg_base.specs.declared.object.Label.{Label}
 use Rattle.rg_base.specs.declared.object.Label.TheVariants.{Region, Temp, Frozen}
@@ -17,21 +17,21 @@ use Rattle.rg_cown.specs.Cargo.{CargoList, label_of as label_in, SoundCargo}
 use Rattle.rg_cown.specs.Loads.{label_from, IsFirst}
 use Rattle.rg_cown.proofs.GroveLoaded.{first_there}
 use Rattle.rg_cown.proofs.SoundMade.{is_in_true}
-use Rattle.rg_cown.proofs.SoundParts.{HasField, parts_of, no_temp, frozen_on, named_before, label_there, label_within}
+use Rattle.rg_cown.proofs.SoundParts.{HasField, parts_of, no_temp, named_before, label_there, label_within}
 use Rattle.rg_opening.specs.declared.given.Given.{Given}
 use Rattle.rg_opening.specs.declared.given.Given.TheVariants.{Start, Held}
-use Rattle.rg_opening.specs.Opening.{value_from, object_from, field_values, content_objects, content_managers, opening_of}
+use Rattle.rg_opening.specs.Opening.{value_from, object_from, field_values, content_objects, opening_of}
 use Rattle.rg_opening.proofs.Placed.{objects_before, regions_before, IsContent, content-there, content-back, value-held, value-back, get-mapped}
 use Rattle.rg_opening.proofs.Placed.{objects_before-more, regions_before-more}
 use Rattle.rg_sound.specs.Fit.{Fit}
 use Rattle.rg_sound.specs.Numbers.{LabelGiven}
 use Rattle.rg_sound.proofs.Held.{fit-holds}
-use Rattle.rg_stack.specs.Machine.{Frame, Window, Machine}
+use Rattle.rg_stack.specs.Machine.{Frame, Machine}
 use Rattle.rg_stack.specs.Labels.{is_open, label_of, is_into, lies_in, is_outside}
-use Rattle.rg_held.specs.Part.{leads_to, SlotInto, FieldInto, Placed, may_lead, Tidy, Part}
+use Rattle.rg_held.specs.Part.{leads_to, FieldInto, Placed, may_lead, Tidy, Part}
 use Rattle.rg_held.specs.Gone.{gone}
 use Rattle.rg_begin.specs.Inner.Shown.{begun_machine}
-use Rattle.rg_begin.specs.Inner.Laid.{MayCome, AllMayCome}
+use Rattle.rg_begin.specs.Inner.Laid.{AllMayCome}
 use Rattle.rg_begin.proofs.Owning.{content-label}
 
 less : (a b : ℕ) → nat_lt a b ≡ true → a < b
@@ -216,8 +216,7 @@ module _ (n : ℕ) (e : Entry) (class : ℕ) (given : List Given) (may : AllMayC
       let object = there field 0 c first.0 at first.1 in
       let same : n + 0 ≡ n = omega arith in
       let number : s + 0 ≡ r = omega (arith, is) in
-      let apart : 0 ≢ r = (λ z. omega (arith, z, is, more)) in
-      (
+      let apart : 0 ≢ r = (λ z. omega (arith, z, is, more)) in (
         record {
           object = 0;
           field = field;
@@ -255,8 +254,7 @@ module _ (n : ℕ) (e : Entry) (class : ℕ) (given : List Given) (may : AllMayC
           let to = label_there c.cells x (Region (suc q)) first.lies in
           let holder = there field k c has.cell at has.there in
           let target = there field x c to.0 at to.1 in
-          let number : s + suc q ≡ r = omega (arith, is) in
-          (
+          let number : s + suc q ≡ r = omega (arith, is) in (
             record {
               object = n + k;
               field = i;

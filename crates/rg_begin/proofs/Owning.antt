@@ -1,24 +1,21 @@
 -- A content comes, and a field of the behaviour's object owns it.
 use Rattle.std.proofs.Common.{◌≡◌, ◌≢◌, ◌<◌, ◌+◌, ◌⊎◌, inl, inr, ℕ, zero, suc, List, [], ◌∷◌, ◌++◌, length, map, take, drop, Option, Some, None, slice_get}
 use Rattle.std.proofs.Common.{slice_set, option_map, option_and_then, refl, sym, ap, ◌∙◌, subst, arith, append_assoc}
-use Rattle.std.specs.Prelude.{slice_index}
 use Rattle.std.proofs.lemmas.List.{length-map}
 use Rattle.std.proofs.lemmas.Option.{none-some, same_Some, slice_get-map, slice_get_within, get_or_from_slice_get}
 use Rattle.rg_base.specs.declared.object.Label.{Label}
 use Rattle.rg_base.specs.declared.object.Label.TheVariants.{Region, Temp, Frozen}
 use Rattle.rg_base.specs.declared.object.Seen.{Seen}
-use Rattle.rg_base.specs.declared.words.Manager.{Manager}
 use Rattle.rg_base.specs.declared.words.Manager.TheVariants.{Arena}
 use Rattle.rg_base.specs.declared.value.Val.{Val}
 use Rattle.rg_base.specs.declared.value.Val.TheVariants.{Nil, Obj}
-use Rattle.rg_base.specs.declared.value.Word.{Word}
 use Rattle.rg_base.specs.declared.value.Word.TheVariants as word
-use Rattle.rg_base.proofs.Callers.Labels.{slot-same, region-same, frozen-region}
+use Rattle.rg_base.proofs.Callers.Labels.{slot-same, region-same}
 use Rattle.rg_cells.specs.declared.cell.Body.{Body}
-use Rattle.rg_cells.specs.Table.{Heap, Table, body_at, field_at, label_at, width, with_field, HasSerial, Serials, IsHeld}
-use Rattle.rg_regions.specs.Table.{Record, RegionTable, record_at, HasNumber, IsBridge}
+use Rattle.rg_cells.specs.Table.{body_at, field_at, label_at, width, with_field, HasSerial, Serials, IsHeld}
+use Rattle.rg_regions.specs.Table.{record_at, HasNumber, IsBridge}
 use Rattle.rg_regions.specs.Reach.{LiesIn}
-use Rattle.rg_regions.specs.Grove.{Grove, Parent, Above, direct, further}
+use Rattle.rg_regions.specs.Grove.{Grove, Above, direct, further}
 use Rattle.rg_regions.proofs.Callers.Told.{labelled_held, led_held, number_of, record_there}
 use Rattle.rg_frames.specs.Stack.{Stack}
 use Rattle.rg_cown.specs.declared.cargo.CargoCell.{CargoCell}
@@ -26,22 +23,22 @@ use Rattle.rg_cown.specs.Cargo.{CargoList, label_of, SoundCargo}
 use Rattle.rg_cown.specs.Loads.{word_in, label_from, Loaded}
 use Rattle.rg_cown.proofs.GroveLoaded.{led_by_object}
 use Rattle.rg_cown.proofs.SoundMade.{is_in_true}
-use Rattle.rg_cown.proofs.SoundParts.{HasField, Enters, parts_of, in_range, no_temp, no_entry, label_there}
+use Rattle.rg_cown.proofs.SoundParts.{HasField, parts_of, in_range, no_temp, no_entry, label_there}
 use Rattle.rg_heap.specs.Parts.{Parts}
-use Rattle.rg_heap.specs.Answers.{val_of, obj_of, AllLead}
+use Rattle.rg_heap.specs.Answers.{val_of, AllLead}
 use Rattle.rg_heap.specs.Writes.{Comes, InActive, LeadsOut, Ownerless, IsTemp}
 use Rattle.rg_opening.specs.declared.given.Given.{Given}
 use Rattle.rg_opening.specs.declared.given.Given.TheVariants.{Start, Held}
 use Rattle.rg_opening.specs.Opening.{object_from, field_values, content_objects, content_managers}
 use Rattle.rg_opening.proofs.Placed.{content-back}
-use Rattle.rg_stack.specs.Effects.{put_in, with_value_in}
+use Rattle.rg_stack.specs.Effects.{put_in}
 use Rattle.rg_view.specs.View.{object_of, store_of, managers_of}
 use Rattle.rg_view.specs.Numbers.{Numbers, HasBridges}
 use Rattle.rg_view.proofs.Callers.Look.{store-length, store-held, val-held}
 use Rattle.rg_view.proofs.Callers.Manager.{managers-length}
 use Rattle.rg_view.proofs.Callers.Shown.{held-body, field-in, get-take}
 use Rattle.rg_view.proofs.Callers.Write.{written-there, written-store}
-use Rattle.rg_begin.specs.Inner.Laid.{start_value, object_with, MayCome, AllMayCome, Laid}
+use Rattle.rg_begin.specs.Inner.Laid.{start_value, object_with, AllMayCome, Laid}
 use Rattle.rg_begin.proofs.Givens.{take-one, drop-one, take-length, set-behind, get-behind, objects_behind, regions_behind, objects-many, regions-many}
 use Rattle.rg_begin.proofs.Givens.{values-length, values-start, values-held, objects-start, objects-held, managers-start, managers-held}
 use Rattle.rg_begin.proofs.Loaded.{slot-of, body-of, held-on, New, back, loaded-store, region-on, loaded-numbers, loaded-managers, loaded-bridges}
@@ -331,8 +328,7 @@ module _ (p m : Parts) (v : Stack) (slot class : ℕ) (given : List Given) (k br
         bridge = is;
         not_first = λ z. omega (arith, z, less);
         alone = alone;
-      } in
-      (
+      } in (
         p.regions.next,
         subst (Ownerless m.cells.heap m.regions p.regions.next) same owner,
         λ z. omega (arith, z, less),

@@ -1,7 +1,7 @@
 -- The machine of a behaviour whose contents have all come: what always holds of it, and what it shows.
-use Rattle.std.proofs.Common.{◌≡◌, ◌<◌, ◌+◌, ◌-◌, inl, inr, ℕ, zero, suc, List, [], ◌∷◌, ◌++◌, length, map, take, drop, replicate, reverse, Option, Some}
+use Rattle.std.proofs.Common.{◌≡◌, ◌+◌, ◌-◌, ℕ, zero, suc, List, [], ◌∷◌, ◌++◌, length, map, take, drop, replicate, Some}
 use Rattle.std.proofs.Common.{None, slice_get, slice_index_or, option_map, refl, sym, ap, ◌∙◌, subst, arith, length-append}
-use Rattle.std.proofs.lemmas.List.{append-nil, length-replicate}
+use Rattle.std.proofs.lemmas.List.{append-nil}
 use Rattle.std.proofs.lemmas.Option.{none-some, same_Some}
 use Rattle.rg_base.specs.declared.object.Label.TheVariants.{Region, Temp}
 use Rattle.rg_base.specs.declared.object.Seen.{Seen}
@@ -9,19 +9,18 @@ use Rattle.rg_base.specs.declared.words.Manager.{Manager}
 use Rattle.rg_base.specs.declared.words.Manager.TheVariants.{Arena}
 use Rattle.rg_base.specs.declared.value.Val.{Val}
 use Rattle.rg_base.specs.declared.value.Val.TheVariants as val
-use Rattle.rg_base.specs.declared.value.Word.{Word}
 use Rattle.rg_base.specs.declared.value.Word.TheVariants.{Nil, Slot}
 use Rattle.rg_base.proofs.Callers.Labels.{slot-same, region-same}
 use Rattle.rg_cells.specs.declared.cell.Body.{Body}
-use Rattle.rg_cells.specs.Table.{body_at, label_at, Serials, IsHeld}
-use Rattle.rg_regions.specs.Table.{Record, RegionTable, record_at, HasNumber}
+use Rattle.rg_cells.specs.Table.{label_at, Serials, IsHeld}
+use Rattle.rg_regions.specs.Table.{record_at, HasNumber}
 use Rattle.rg_regions.specs.Reach.{LiesIn}
 use Rattle.rg_regions.specs.Grove.{Grove}
 use Rattle.rg_regions.proofs.Callers.Told.{one_number, record_there}
 use Rattle.rg_frames.specs.declared.rows.Window.{Window}
 use Rattle.rg_frames.specs.Stack.{Stack}
 use Rattle.rg_code.specs.declared.code.Entry.{Entry}
-use Rattle.rg_stack.specs.Machine.{Frame, Window as WindowOf, Machine}
+use Rattle.rg_stack.specs.Machine.{Frame, Machine}
 use Rattle.rg_heap.specs.Parts.{Parts}
 use Rattle.rg_heap.specs.Answers.{val_of, obj_of}
 use Rattle.rg_heap.specs.Opened.{Opened, IsTempOf}
@@ -139,6 +138,7 @@ module _ (p : Parts) (key n a b m slot c d class : ℕ) (given : List Given) (ma
     fields = λ i s k to r w e t. absurd (no-temp i s v refl t);
     first_mark = λ x e. sym (same_Some 0 x e);
   }
+
   -- it is held, and its region is an arena
   pub first-held : FirstHeld p
   first-held =

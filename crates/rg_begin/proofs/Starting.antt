@@ -1,10 +1,8 @@
 -- What the code of a program has for a behaviour that may begin.
-use Rattle.std.proofs.Common.{◌≡◌, ℕ, zero, suc, ◌<◌, true, List, [], ◌∷◌, map, length, Some, slice_get, refl, sym, ap, ◌∙◌, subst}
+use Rattle.std.proofs.Common.{◌≡◌, ℕ, zero, suc, ◌<◌, true, List, [], ◌∷◌, map, length, slice_get, refl, sym, ap, ◌∙◌, subst}
 use Rattle.std.proofs.lemmas.Option.{none-some, same_Some, slice_get_within}
 use Rattle.rg_base.specs.declared.words.Cap.TheVariants.{Iso}
-use Rattle.rg_base.specs.declared.ty.Ty.{Ty}
-use Rattle.rg_base.specs.declared.ty.Ty.TheVariants.{Int, Bool, Ref}
-use Rattle.rg_base.specs.declared.value.Val.{Val}
+use Rattle.rg_base.specs.declared.ty.Ty.TheVariants.{Ref}
 use Rattle.rg_base.specs.declared.value.Val.TheVariants.{Nil, Obj}
 use Rattle.rg_base.specs.declared.value.Word.{Word}
 use Rattle.rg_base.specs.declared.value.Word.TheVariants as word
@@ -12,12 +10,9 @@ use Rattle.rg_tree.specs.Tree.{Ty as Written, int, bool, ref, Field, Method, Cla
 use Rattle.rg_rules.specs.Types.{type_of, fields_of}
 use Rattle.rg_rules.specs.RightSides.{opening_value}
 use Rattle.rg_code.specs.Code.{Code}
-use Rattle.rg_code.specs.Lowering.{lowered}
-use Rattle.rg_code.specs.declared.code.Entry.{Entry}
 use Rattle.rg_heap.specs.Changes.{LeadsNowhere}
-use Rattle.rg_stack.specs.Machine.{value_of_word}
 use Rattle.rg_stack.specs.Needs.{leads_nowhere}
-use Rattle.rg_stack.proofs.Callers.Behaviour.{OpensWith, opens-with, Enters, enters}
+use Rattle.rg_stack.proofs.Callers.Behaviour.{opens-with, Enters, enters}
 use Rattle.rg_opening.specs.declared.given.Given.{Given}
 use Rattle.rg_opening.specs.declared.given.Given.TheVariants.{Start, Held}
 use Rattle.rg_opening.specs.Beginning.{FieldsBegin}

@@ -1,15 +1,13 @@
 -- The machine with which a behaviour begins shows the state in which it begins. For callers.
-use Rattle.std.proofs.Common.{◌≡◌, ℕ, ◌+◌, ◌-◌, ◌≤◌, List, [], ◌∷◌, length, replicate, Some, slice_get, refl, sym, ap, ◌∙◌, subst, arith}
+use Rattle.std.proofs.Common.{◌≡◌, ℕ, ◌+◌, ◌-◌, List, [], ◌∷◌, length, replicate, Some, slice_get, refl, sym, ap, ◌∙◌, subst, arith}
 use Rattle.std.proofs.lemmas.List.{length-replicate}
 use Rattle.std.proofs.lemmas.Option.{same_Some}
-use Rattle.rg_base.specs.declared.words.Cap.TheVariants.{Mut}
-use Rattle.rg_base.specs.declared.ty.Ty.TheVariants.{Ref}
 use Rattle.rg_base.specs.declared.value.Val.TheVariants as val
 use Rattle.rg_tree.specs.Tree.{Method, Block, Tree, empty as none, then as next}
-use Rattle.rg_rules.specs.Items.{Item, EndAt, Back, items_of}
+use Rattle.rg_rules.specs.Items.{EndAt, Back, items_of}
 use Rattle.rg_code.specs.Code.{Code}
 use Rattle.rg_code.specs.Lowering.{lowered}
-use Rattle.rg_code.specs.Places.{Level, Lies}
+use Rattle.rg_code.specs.Places.{Lies}
 use Rattle.rg_code.specs.declared.code.Entry.{Entry}
 use Rattle.rg_sound.specs.Fit.{Fit}
 use Rattle.rg_sound.proofs.Held.{fit-holds}
@@ -77,9 +75,8 @@ begun-shows fits t code class method m given x e s at is =
       held = held (lowered t).main_slots b.entry class given may;
       shows = shows t class method m given fit b;
       beside = begun-part (lowered t).main_slots b.entry class given may t m fit;
-    } in
-    (
+    } in (
       fit,
       subst (λ (c : Code). ShowsHeld t.classes c x (opening_of class m given)) (sym s.lowers)
-      (subst (λ (y : Machine). ShowsHeld t.classes (lowered t) y (opening_of class m given)) (sym same) shown),
+          (subst (λ (y : Machine). ShowsHeld t.classes (lowered t) y (opening_of class m given)) (sym same) shown),
     )

@@ -1,5 +1,5 @@
 -- The heap on which a behaviour begins, while its contents come (docs/architecture.md, "How a behaviour begins").
-use Rattle.std.specs.Prelude.{◌≡◌, ℕ, List, [], ◌∷◌, ◌++◌, map, take, drop, length, Some, slice_get}
+use Rattle.std.specs.Prelude.{◌≡◌, ℕ, List, ◌∷◌, ◌++◌, map, take, drop, Some, slice_get}
 use Rattle.rg_base.specs.declared.object.Label.TheVariants.{Region}
 use Rattle.rg_base.specs.declared.object.Seen.{Seen}
 use Rattle.rg_base.specs.declared.words.Manager.TheVariants.{Arena}
@@ -9,7 +9,7 @@ use Rattle.rg_cells.specs.Table.{HasSerial}
 use Rattle.rg_regions.specs.Table.{HasNumber}
 use Rattle.rg_frames.specs.declared.rows.Window.{Window}
 use Rattle.rg_frames.specs.Stack.{Stack, IsTop}
-use Rattle.rg_cown.specs.Cargo.{CargoList, SoundCargo}
+use Rattle.rg_cown.specs.Cargo.{SoundCargo}
 use Rattle.rg_heap.specs.Parts.{Parts}
 use Rattle.rg_opening.specs.declared.given.Given.{Given}
 use Rattle.rg_opening.specs.declared.given.Given.TheVariants.{Start, Held}

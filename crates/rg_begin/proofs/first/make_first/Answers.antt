@@ -1,13 +1,12 @@
-use Rattle.std.proofs.Common.{◌≡◌, ℕ, IfOk, ap, sym, ◌∙◌, subst}
+use Rattle.std.proofs.Common.{◌≡◌, ap, sym, ◌∙◌, subst}
 use Rattle.std.proofs.lemmas.Option.{same_Some}
 use Rattle.rg_base.specs.declared.object.Label.TheVariants.{Region}
-use Rattle.rg_base.specs.declared.value.Word.{Word}
 use Rattle.rg_cells.specs.Table.{Table}
 use Rattle.rg_frames.specs.Stack.{Stack}
 use Rattle.rg_heap.specs.Changes.{LeadsNowhere, OnActive, Makes, Rewritten, with_one}
 use Rattle.rg_heap.specs.Parts.{OnTop}
 use Rattle.rg_stack.specs.Machine.{value_of_word}
-use Rattle.rg_begin.specs.Inner.First.{FirstMade, main_frame}
+use Rattle.rg_begin.specs.Inner.First.{main_frame}
 use Rattle.rg_begin.specs.Inner.Laid.{start_value, Laid}
 use Rattle.rg_begin.proofs.Alone.{both-ok, first-laid}
 use Rattle.rg_begin.proofs.first.make_first.Goals as goal
