@@ -126,7 +126,8 @@ module _ (p q : Parts) (start : RegionTable) (key n a b slot class : ℕ) (words
     first-store : store_of q.cells.heap ≡ record { class = class; fields = map start_value given; label = Region 0 } ∷ []
     first-store =
         made-plain p.cells q.cells slot class (Region 0) words makes old (none-leads p.cells.heap slots) plain
-        ∙ ap (λ m. map (seen_of p.cells.heap) (range_with_len 0 m) ++ record { class = class; fields = map value_of_word words; label = Region 0 } ∷ [])
+        ∙ ap (λ m. map (seen_of p.cells.heap) (range_with_len 0 m)
+        ++ record { class = class; fields = map value_of_word words; label = Region 0 } ∷ [])
         serials
         ∙ ap (λ vs. record { class = class; fields = vs; label = Region 0 } ∷ []) values
 

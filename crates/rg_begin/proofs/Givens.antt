@@ -105,7 +105,8 @@ objects-held n r (Held d ∷ gs) c =
     let m = n + length d.cells in
     let q = r + length d.managers in
     ap (λ (os : List Seen). map (object_from n r) d.cells ++ os) (objects-held m q gs c)
-    ∙ sym (append_assoc (map (object_from n r) d.cells) (content_objects m q gs) (map (object_from (objects_behind m gs) (regions_behind q gs)) c.cells))
+    ∙ sym (append_assoc (map (object_from n r) d.cells) (content_objects m q gs)
+    (map (object_from (objects_behind m gs) (regions_behind q gs)) c.cells))
 
 pub managers-start : (gs : List Given) (v : Val) → content_managers (gs ++ Start v ∷ []) ≡ content_managers gs
 managers-start [] v = refl

@@ -1,5 +1,6 @@
 -- A content comes, and a field of the behaviour's object owns it.
-use Rattle.std.proofs.Common.{◌≡◌, ◌≢◌, ◌<◌, ◌+◌, ◌⊎◌, inl, inr, ℕ, zero, suc, List, [], ◌∷◌, ◌++◌, length, map, take, drop, Option, Some, None, slice_get}
+use Rattle.std.proofs.Common.{◌≡◌, ◌≢◌, ◌<◌, ◌+◌, ◌⊎◌, inl, inr, ℕ, zero, suc, List, [], ◌∷◌, ◌++◌, length, map, take, drop, Option, Some}
+use Rattle.std.proofs.Common.{None, slice_get}
 use Rattle.std.proofs.Common.{slice_set, option_map, option_and_then, refl, sym, ap, ◌∙◌, subst, arith, append_assoc}
 use Rattle.std.proofs.lemmas.List.{length-map}
 use Rattle.std.proofs.lemmas.Option.{none-some, same_Some, slice_get-map, slice_get_within, get_or_from_slice_get}
@@ -39,7 +40,8 @@ use Rattle.rg_view.proofs.Callers.Manager.{managers-length}
 use Rattle.rg_view.proofs.Callers.Shown.{held-body, field-in, get-take}
 use Rattle.rg_view.proofs.Callers.Write.{written-there, written-store}
 use Rattle.rg_begin.specs.Inner.Laid.{start_value, object_with, AllMayCome, Laid}
-use Rattle.rg_begin.proofs.Givens.{take-one, drop-one, take-length, set-behind, get-behind, objects_behind, regions_behind, objects-many, regions-many}
+use Rattle.rg_begin.proofs.Givens.{take-one, drop-one, take-length, set-behind, get-behind, objects_behind, regions_behind, objects-many}
+use Rattle.rg_begin.proofs.Givens.{regions-many}
 use Rattle.rg_begin.proofs.Givens.{values-length, values-start, values-held, objects-start, objects-held, managers-start, managers-held}
 use Rattle.rg_begin.proofs.Loaded.{slot-of, body-of, held-on, New, back, loaded-store, region-on, loaded-numbers, loaded-managers, loaded-bridges}
 

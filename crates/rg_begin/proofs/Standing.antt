@@ -175,7 +175,8 @@ module _ (p : Parts) (key n a b m slot c d class : ℕ) (given : List Given) (ma
   frames-are : frames_of p.cells.heap v ≡ framed (val.Obj 0 ∷ replicate (m - 1) val.Nil) (framed (replicate n val.Nil) [])
   frames-are =
       pushed-frames p.cells.heap (main_frame key n a b) 0 (Slot slot ∷ replicate (m - 1) Nil)
-      ∙ ap (λ vs. framed (val_of p.cells.heap (Slot slot) ∷ vs) (framed (map (val_of p.cells.heap) (replicate n Nil)) [])) (map-nil p.cells.heap (m - 1))
+      ∙ ap (λ vs. framed (val_of p.cells.heap (Slot slot) ∷ vs) (framed (map (val_of p.cells.heap) (replicate n Nil)) []))
+      (map-nil p.cells.heap (m - 1))
       ∙ ap (λ x. framed (x ∷ replicate (m - 1) val.Nil) (framed (map (val_of p.cells.heap) (replicate n Nil)) []))
       (ap obj_of l.first.1 ∙ ap val.Obj l.first.2)
       ∙ ap (λ vs. framed (val.Obj 0 ∷ replicate (m - 1) val.Nil) (framed vs [])) (map-nil p.cells.heap n)
