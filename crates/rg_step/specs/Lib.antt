@@ -10,3 +10,4 @@ pub mod States
 pub mod Yeses
 pub mod Stepping
 pub mod Pacers
+pub mod Behaviours

@@ -19,6 +19,8 @@ ghost use Rattle.rg_step.specs.Stepping.{IsFresh};
 ghost use Rattle.rg_step.specs.Steps.{counted_by};
 ghost use Rattle.rg_step.specs.Stepping.{fresh, nothing, numbers_of};
 
+mod content;
+
 use crate::collecting::{follow, is_made};
 use crate::kept::{Kept, Since};
 use crate::leap::leap;

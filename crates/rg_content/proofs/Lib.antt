@@ -1,0 +1,1 @@
+-- The lemmas by which a content is read off the machine.
