@@ -4,6 +4,6 @@
 //! the machine shows. So what a behaviour gives back is a fact of its plain state.
 #![tactic(auto)]
 
-mod content;
+mod reading;
 
-pub use content::content;
+pub use reading::content;

@@ -10,7 +10,7 @@ ghost use Rattle.rg_held.specs.Shown.{ShowsHeld};
 ghost use Rattle.rg_machine.specs.Parts.{machine_in};
 ghost use Rattle.rg_content.specs.Fields.{IsContent, IsOwnField};
 
-use rg_base::Memory;
+use rg_base::{Memory, Word};
 use rg_cown::Cargo;
 use rg_machine::Machine;
 use std::alloc::Global;
@@ -27,9 +27,20 @@ pub fn content(p: &Machine, alloc: Global, serial: u64, field: u32) -> Result<Op
         → IsOwnField t.classes s.store serial field
         → IfOk result (IsContent s serial field) }
 {
-    let _ = p;
-    let _ = alloc;
-    let _ = serial;
-    let _ = field;
-    Err(Memory)
+    p.is_sound();
+    let heap = p.heap();
+    let Some(slot) = heap.find(serial) else {
+        unreachable!();
+    };
+    let Ok(word) = heap.read(Word::Slot(slot), field) else {
+        unreachable!();
+    };
+    match word {
+        Word::Nil => Ok(None),
+        Word::Int(_) | Word::Bool(_) => unreachable!(),
+        Word::Slot(bridge) => {
+            let cargo = heap.unload(alloc, bridge)?;
+            Ok(Some(cargo))
+        }
+    }
 }
