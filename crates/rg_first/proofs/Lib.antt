@@ -1,0 +1,1 @@
+-- The lemmas by which the laws are proved; those with pub are for crates above.
