@@ -1,6 +1,6 @@
 -- What a right side leaves: objects of region 0 are still there, where what it uses up is of another region.
-use Rattle.std.proofs.Common.{◌≡◌, ◌≢◌, refl, sym, ◌∙◌, ap, subst, inl, inr, ℕ, ◌==◌, Bool as Truth, true, false, nat_lt, List, [], ◌∷◌, ◌++◌, length}
-use Rattle.std.proofs.Common.{Option, Some, None, option_map, option_and_then, slice_get, Result, Ok, arith}
+use Rattle.std.proofs.Common.{◌≡◌, ◌≢◌, refl, sym, ◌∙◌, ap, subst, inl, inr, ℕ, nat_lt, List, [], ◌∷◌, ◌++◌, length}
+use Rattle.std.proofs.Common.{Option, Some, None, option_map, option_and_then, Result, Ok, arith}
 use Rattle.std.proofs.lemmas.Option.{same_Some}
 use Rattle.rg_base.specs.declared.limits.TheConstants.{FRAMES}
 use Rattle.rg_base.specs.declared.words.Cap.{Cap}
@@ -23,7 +23,7 @@ use Rattle.rg_rules.specs.Types.{class_named, method_named}
 use Rattle.rg_rules.specs.Expressions.{Judged}
 use Rattle.rg_rules.specs.Rights.{judge_consumed, judge_right}
 use Rattle.rg_rules.specs.Items.{Item, Do}
-use Rattle.rg_rules.specs.State.{Target, Frame, State, locals_of, top_locals, value_in, place_in}
+use Rattle.rg_rules.specs.State.{Target, State, locals_of, top_locals, value_in, place_in}
 use Rattle.rg_rules.specs.Regions.{region_of, region_at, address, beneath}
 use Rattle.rg_rules.specs.Owners.{Forest}
 use Rattle.rg_rules.specs.Evaluation.{object_at, path_value, value_of, values_of, computed}
@@ -42,7 +42,7 @@ use Rattle.rg_sound.proofs.Owners.Enter.{iso-type, seen-iso, owned-object}
 use Rattle.rg_sound.proofs.Stores.Consume.{judge_consumed-parts}
 use Rattle.rg_sound.proofs.Stores.Member.{In, not-among}
 use Rattle.rg_sound.proofs.Stores.Beneath.{beneath-from}
-use Rattle.rg_first.proofs.Stores.{Keeps, keeps-same, keeps-is, keeps-then, keeps-push, keeps-relabelled, UseKeeps}
+use Rattle.rg_first.proofs.Stores.{Keeps, keeps-is, keeps-then, keeps-push, keeps-relabelled, UseKeeps}
 
 pub ok-is : {A E : Type 0} (a b : A) → ◌≡◌ {A = Result A E} (Ok a) (Ok b) → a ≡ b
 ok-is a b h = grind arith

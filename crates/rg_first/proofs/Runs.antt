@@ -1,5 +1,5 @@
 -- Each state of a run of a behaviour fits, and has the behaviour's object as its first one. For callers.
-use Rattle.std.proofs.Common.{◌≡◌, refl, sym, ◌∙◌, ap, subst, ℕ, zero, suc, ◌+◌, List, [], ◌∷◌, length, Some}
+use Rattle.std.proofs.Common.{◌≡◌, refl, sym, ap, subst, ℕ, zero, suc, ◌+◌, List, [], ◌∷◌, length}
 use Rattle.rg_base.specs.declared.object.Label.TheVariants.{Region}
 use Rattle.rg_tree.specs.Tree.{Field, Method, Tree}
 use Rattle.rg_rules.specs.Acceptance.{Accepted}
@@ -15,7 +15,7 @@ use Rattle.rg_opening.specs.declared.given.Given.TheVariants.{Start, Held}
 use Rattle.rg_opening.specs.Opening.{field_values, opening_of}
 use Rattle.rg_opening.specs.Beginning.{FieldsBegin, MayBegin}
 use Rattle.rg_opening.specs.Laws.{OpeningFits}
-use Rattle.rg_first.specs.First.{IsFirst, IsOfBehaviour}
+use Rattle.rg_first.specs.First.{IsOfBehaviour}
 use Rattle.rg_first.specs.Laws.{RunsGoOn, FirstOfRuns}
 use Rattle.rg_first.proofs.Steps.{first-stays}
 

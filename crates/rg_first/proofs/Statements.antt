@@ -1,9 +1,8 @@
 -- A step of a statement: objects of region 0 are still there.
-use Rattle.std.proofs.Common.{◌≡◌, refl, sym, ◌∙◌, ap, subst, ℕ, Bool as Truth, true, false, if◌then◌else◌, List, [], ◌∷◌, ◌++◌, length, Option, Some, None}
-use Rattle.std.proofs.Common.{Result, Ok, arith}
+use Rattle.std.proofs.Common.{◌≡◌, refl, sym, ◌∙◌, ap, subst, ℕ, Bool as Truth, true, false, if◌then◌else◌, List, [], ◌∷◌, ◌++◌, Option, Some, None}
+use Rattle.std.proofs.Common.{Result, Ok}
 use Rattle.rg_base.specs.declared.ty.Ty.TheVariants.{Int}
 use Rattle.rg_base.specs.declared.object.Place.{Place}
-use Rattle.rg_base.specs.declared.object.Seen.{Seen}
 use Rattle.rg_base.specs.declared.value.Val.{Val}
 use Rattle.rg_base.specs.declared.outcome.Trap.{Trap}
 use Rattle.rg_tree.specs.Tree.{Name, Variable, Path, Ty as Written, Expr, Right, stmt, StmtKind, declare, assign, assign_element, call, swap, branch}
@@ -18,16 +17,15 @@ use Rattle.rg_rules.specs.Items.{Item, Do}
 use Rattle.rg_rules.specs.State.{Target, Declares, Assigns, Drops, Frame, State, locals_of, value_in, add_local, put_local, deliver}
 use Rattle.rg_rules.specs.Values.{as_bool}
 use Rattle.rg_rules.specs.Regions.{region_of}
-use Rattle.rg_rules.specs.Evaluation.{object_at, element_place, field_value, follow_fields, path_value, value_of, computed}
-use Rattle.rg_rules.specs.RightSides.{with_right}
-use Rattle.rg_rules.specs.Steps.{put_field, put_element, step_assign, step_assign_element, step_swap, begin_block, begin_else, with_window, entered}
+use Rattle.rg_rules.specs.Evaluation.{object_at, element_place, follow_fields, path_value, value_of, computed}
+use Rattle.rg_rules.specs.Steps.{put_field, put_element, step_swap, begin_block, begin_else, with_window, entered}
 use Rattle.rg_rules.specs.Steps.{step_enter, step_return, step_kind}
 use Rattle.rg_rules.proofs.Answers.{bind-ok, then-ok, at_line-ok}
 use Rattle.rg_rules.proofs.Expression.{judge_expr-env, number-not_iso}
 use Rattle.rg_rules.proofs.Step.{computed-ok}
 use Rattle.rg_sound.specs.Fit.{Fit}
 use Rattle.rg_sound.proofs.Frames.Judge.{judge_declare-parts, judge_assign-parts, judge_assign-field, judge_assign-element}
-use Rattle.rg_sound.proofs.Values.Assign.{Doing, doing, doing-judges}
+use Rattle.rg_sound.proofs.Values.Assign.{doing, doing-judges}
 use Rattle.rg_first.proofs.Stores.{Keeps, keeps-same, keeps-is, field-keeps, element-keeps}
 use Rattle.rg_first.proofs.Rights.{ok-is, right-spares, call-keeps, right-keeps}
 

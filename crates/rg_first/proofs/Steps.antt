@@ -1,10 +1,10 @@
 -- A step keeps the object of a behaviour.
-use Rattle.std.proofs.Common.{◌≡◌, refl, sym, ◌∙◌, ap, subst, ℕ, List, [], ◌∷◌, Option, Some, None, Ok, arith}
+use Rattle.std.proofs.Common.{◌≡◌, refl, sym, ◌∙◌, ap, subst, ℕ, List, [], ◌∷◌, Option, Some, None, Ok}
 use Rattle.rg_base.specs.declared.object.Place.{Place}
 use Rattle.rg_base.specs.declared.object.Place.TheVariants.{Var, Field}
 use Rattle.rg_base.specs.declared.value.Val.{Val}
 use Rattle.rg_base.specs.declared.value.Val.TheVariants.{Obj}
-use Rattle.rg_tree.specs.Tree.{Name, stmt, Class, Tree}
+use Rattle.rg_tree.specs.Tree.{Name, stmt, Tree}
 use Rattle.rg_rules.specs.Acceptance.{Accepted}
 use Rattle.rg_rules.specs.Items.{Item, Do, EndAt, LeaveAt, LeaveGiving, Back}
 use Rattle.rg_rules.specs.State.{Window, State, locals_of, value_in, keep_locals}
@@ -14,9 +14,8 @@ use Rattle.rg_rules.proofs.Answers.{then-ok}
 use Rattle.rg_rules.proofs.Step.{stepped-went}
 use Rattle.rg_sound.specs.Fit.{Fit}
 use Rattle.rg_sound.proofs.Frames.Quiet.{went_is}
-use Rattle.rg_first.specs.First.{IsFirst}
 use Rattle.rg_first.specs.Laws.{FirstStays}
-use Rattle.rg_first.proofs.Stores.{Keeps, keeps-is, element-keeps}
+use Rattle.rg_first.proofs.Stores.{Keeps, element-keeps}
 use Rattle.rg_first.proofs.Rights.{ok-is}
 use Rattle.rg_first.proofs.Statements.{stored, kind-keeps}
 
