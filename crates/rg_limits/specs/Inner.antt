@@ -1,0 +1,3 @@
+-- What private functions answer, and what they test.
+pub mod Counting
+pub mod Fine
