@@ -3,4 +3,3 @@ mod Settled
 mod NoteLines
 mod Asked
 mod Answer
-mod Each
