@@ -2,3 +2,4 @@
 mod Managers
 mod Shown
 mod Lasts
+mod Along
