@@ -3,3 +3,4 @@ mod Managers
 mod Shown
 mod Lasts
 mod Along
+mod Examples
