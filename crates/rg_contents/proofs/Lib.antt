@@ -1,1 +1,8 @@
 -- Lemmas on contents at rest (docs/architecture.md, "Schedules").
+mod Lists
+mod Methods
+mod Owners
+mod Begins
+mod Returns
+mod News
+mod Worlds
