@@ -47,11 +47,12 @@ given-begins t f class (Held c) is own = subst (λ (ty : Ty). MayOwn t ty c) (sy
 pub fields-begin : (t : Tree) (cowns : List Cown) (contents : List Content) (fs : List Field) (ns : List ℕ) → RestMayBeOwned t cowns contents
     → Takes t.classes cowns fs ns → FieldsBegin t fs (givens fs (contents_at contents ns))
 fields-begin t cowns contents [] [] rest nothing = tt
-fields-begin t cowns contents (f ∷ fs) ns rest (other no takes) =
+fields-begin t cowns contents [] (n ∷ ns) rest takes = elim takes [ ]
+fields-begin t cowns contents (f ∷ fs) ns rest (other out takes) =
     let cs = contents_at contents ns in
     let P : Truth → Type 0 = λ b. FieldBegins t f (if b then given_of (first_of cs) else given.Start (opening_value f.ty))
     × FieldsBegin t fs (givens fs (if b then rest_of cs else cs)) in
-    subst P (sym no) (refl, fields-begin t cowns contents fs ns rest takes)
+    subst P (sym out) (refl, fields-begin t cowns contents fs ns rest takes)
 fields-begin t cowns contents (f ∷ fs) (n ∷ ns) rest (one c there iso is takes) =
     let cs = contents_at contents (n ∷ ns) in
     let P : Truth → Type 0 = λ b. FieldBegins t f (if b then given_of (first_of cs) else given.Start (opening_value f.ty))

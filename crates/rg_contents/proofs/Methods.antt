@@ -19,14 +19,13 @@ some-of (Some a) f b h = (a, refl, same_Some (f a) b h)
 -- the first that passes stands at the first place where one does
 found-at : {A : Type 0} (test : A → Truth) (xs : List A) (a : A) (k : ℕ) → find test xs ≡ Some a → first_place test xs ≡ Some k → slice_get xs k ≡ Some a
 found-at test [] a k f p = none-some f
-found-at test (x ∷ xs) a k f p = by (test x) f p
+found-at test (x ∷ xs) a k f p = by (test x) f p (found-at test xs a)
   where
     by : (b : Truth) → (if b then Some x else find test xs) ≡ Some a → (if b then Some 0 else option_map suc (first_place test xs)) ≡ Some k
-        → slice_get (x ∷ xs) k ≡ Some a
-    by true g q = subst (λ n. slice_get (x ∷ xs) n ≡ Some a) (same_Some 0 k q) g
-    by false g q =
-        let n = some-of (first_place test xs) suc k q in
-        subst (λ m. slice_get (x ∷ xs) m ≡ Some a) n.2 (found-at test xs a n.0 g n.1)
+        → ((n : ℕ) → find test xs ≡ Some a → first_place test xs ≡ Some n → slice_get xs n ≡ Some a) → slice_get (x ∷ xs) k ≡ Some a
+    by true g q rest = subst (λ n. slice_get (x ∷ xs) n ≡ Some a) (same_Some 0 k q) g
+    by false g q rest =
+        let n = some-of (first_place test xs) suc k q in subst (λ m. slice_get (x ∷ xs) m ≡ Some a) n.2 (rest n.0 g n.1)
 
 in-front : {A : Type 0} (xs ys : List A) (k : ℕ) (a : A) → slice_get xs k ≡ Some a → slice_get (xs ++ ys) k ≡ Some a
 in-front [] ys k a h = none-some h

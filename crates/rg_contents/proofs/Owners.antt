@@ -1,5 +1,5 @@
 -- The `iso` fields of a behaviour's class, each with the cown whose content it takes.
-use Rattle.std.proofs.Common.{◌≡◌, refl, sym, ap, ◌∙◌, subst, ℕ, ◌<◌, Bool as Truth, true, false, List, [], ◌∷◌, length, map, filter_map, Option, None, Some}
+use Rattle.std.proofs.Common.{◌≡◌, refl, sym, ap, ◌∙◌, ℕ, zero, suc, ◌<◌, Bool as Truth, true, false, List, [], ◌∷◌, length, map, filter_map, Option, None, Some}
 use Rattle.std.proofs.Common.{slice_get, arith}
 use Rattle.std.specs.Prelude.{All}
 use Rattle.std.specs.List.{cons_option}
@@ -13,6 +13,7 @@ use Rattle.rg_tree.specs.Tree.{Ty as Written, int, bool, ref, Field, Member, fie
 use Rattle.rg_rules.specs.Types.{class_number, type_of, field_member, members_of, fields_of}
 use Rattle.rg_rules.specs.Headers.{is_iso_written}
 use Rattle.rg_plan.specs.declared.cown.Cown.{Cown}
+use Rattle.rg_plan.specs.Plans.{Turn as Behaviour}
 use Rattle.rg_plan.specs.Lines.{owned_type, owned_by, owned_classes, cown_classes}
 use Rattle.rg_plan.specs.Laws.{IsGoodTurn}
 
@@ -87,8 +88,8 @@ takes-by classes cowns (f ∷ fs) ns below same = by (owns_or_not classes f.ty) 
     by : OwnsOrNot classes f.ty → (ns : List ℕ) → All (λ n. n < length cowns) ns → iso_classes classes (f ∷ fs) ≡ cown_classes cowns ns
         → ((ns : List ℕ) → All (λ n. n < length cowns) ns → iso_classes classes fs ≡ cown_classes cowns ns → Takes classes cowns fs ns)
         → Takes classes cowns (f ∷ fs) ns
-    by (not_so no none) ns below same rest =
-        other no (rest ns below (sym (ap (λ o. cons_option o (iso_classes classes fs)) none) ∙ same))
+    by (not_so out none) ns below same rest =
+        other out (rest ns below (sym (ap (λ o. cons_option o (iso_classes classes fs)) none) ∙ same))
     by (owns class iso is some) [] below same rest =
         let no : class ∷ iso_classes classes fs ≡ [] = sym (ap (λ o. cons_option o (iso_classes classes fs)) some) ∙ same in absurd cc
     by (owns class iso is some) (n ∷ ns) below same rest =
@@ -98,6 +99,6 @@ takes-by classes cowns (f ∷ fs) ns below same = by (owns_or_not classes f.ty) 
         one c.0 c.1 iso (is ∙ ap (Ref Iso) both.0) (rest ns (All-tail (λ n. n < length cowns) n ns below) both.1)
 
 -- so it is for a behaviour of a plan that is read
-pub turn-takes : (classes : List Class) (cowns : List Cown) (b : _) → IsGoodTurn classes cowns b → Takes classes cowns (fields_of classes b.class) b.cowns
+pub turn-takes : (classes : List Class) (cowns : List Cown) (b : Behaviour) → IsGoodTurn classes cowns b → Takes classes cowns (fields_of classes b.class) b.cowns
 turn-takes classes cowns b good =
     takes-by classes cowns (fields_of classes b.class) b.cowns good.below (sym (owned-fields classes (members_of (slice_get classes b.class))) ∙ good.owned)

@@ -71,10 +71,11 @@ back-owned : (t : Tree) (s : State) (cowns : List Cown) (fs : List Field) (vs : 
     → MayOwn t (type_of t.classes f.ty) (cargo_of s.store s.managers a))
     → AllPut (OwnedAt t cowns) ns (map (content_of s) (iso_values fs vs))
 back-owned t s cowns [] vs [] nothing own = tt
+back-owned t s cowns [] vs (n ∷ ns) takes own = elim takes [ ]
 back-owned t s cowns (f ∷ fs) [] ns takes own = put-none (OwnedAt t cowns) (none-owned t cowns) ns
-back-owned t s cowns (f ∷ fs) (v ∷ vs) ns (other no takes) own =
+back-owned t s cowns (f ∷ fs) (v ∷ vs) ns (other out takes) own =
     let P : Truth → Type 0 = λ b. AllPut (OwnedAt t cowns) ns (map (content_of s) (onto_if b v (iso_values fs vs))) in
-    subst P (sym no) (back-owned t s cowns fs vs ns takes (λ k a class g at is there. own (suc k) a class g at is there))
+    subst P (sym out) (back-owned t s cowns fs vs ns takes (λ k a class g at is there. own (suc k) a class g at is there))
 back-owned t s cowns (f ∷ fs) (v ∷ vs) (n ∷ ns) (one c there iso is takes) own =
     let P : Truth → Type 0 = λ b. AllPut (OwnedAt t cowns) (n ∷ ns) (map (content_of s) (onto_if b v (iso_values fs vs))) in
     subst P (sym iso) (
