@@ -6,3 +6,4 @@ mod Begins
 mod Returns
 mod News
 mod Worlds
+mod Examples
