@@ -1,23 +1,21 @@
 -- A behaviour may begin on what its cowns have, where that may be owned.
-use Rattle.std.proofs.Common.{◌≡◌, refl, sym, ap, ◌∙◌, subst, ℕ, Bool as Truth, true, false, ◌&&◌, if◌then◌else◌, List, [], ◌∷◌, get_or, Option, None}
-use Rattle.std.proofs.Common.{Some, slice_get, arith}
+use Rattle.std.proofs.Common.{◌≡◌, refl, sym, subst, ℕ, Bool as Truth, true, ◌&&◌, if◌then◌else◌, List, [], ◌∷◌, get_or, Option, None}
+use Rattle.std.proofs.Common.{Some, arith}
 use Rattle.std.proofs.lemmas.Bool.{and_parts}
 use Rattle.rg_base.specs.declared.words.Cap.{Cap}
 use Rattle.rg_base.specs.declared.words.Cap.TheVariants.{Mut, Tmp, Paused, Imm, Iso}
-use Rattle.rg_base.specs.declared.words.Manager.{Manager}
 use Rattle.rg_base.specs.declared.ty.Ty.{Ty}
 use Rattle.rg_base.specs.declared.ty.Ty.TheVariants.{Ref}
 use Rattle.rg_base.specs.declared.value.Val.TheVariants.{Nil}
-use Rattle.rg_tree.specs.Tree.{Name, Ty as Written, int, bool, ref, Param, Field, Method, Block, empty as none, then as next, Class, Tree}
+use Rattle.rg_tree.specs.Tree.{Ty as Written, int, bool, ref, Param, Field, Block, empty as none, then as next, Class, Tree}
 use Rattle.rg_rules.specs.Types.{type_of, fields_of}
-use Rattle.rg_rules.specs.Headers.{is_iso_written}
 use Rattle.rg_rules.specs.RightSides.{opening_value}
 use Rattle.rg_cown.specs.Cargo.{CargoList}
 use Rattle.rg_opening.specs.declared.given.Given.TheVariants as given
-use Rattle.rg_opening.specs.Beginning.{MayOwn, FieldBegins, FieldsBegin, MayBegin}
+use Rattle.rg_opening.specs.Beginning.{MayOwn, FieldBegins, FieldsBegin}
 use Rattle.rg_plan.specs.declared.cown.Cown.{Cown}
-use Rattle.rg_plan.specs.Plans.{Turn as Behaviour, PlanOf}
-use Rattle.rg_plan.specs.Lines.{no_params, no_result, is_mut, is_plain}
+use Rattle.rg_plan.specs.Plans.{Turn as Behaviour}
+use Rattle.rg_plan.specs.Lines.{no_params, no_result, is_mut}
 use Rattle.rg_plan.specs.Rules.{is_arena, is_bare, has_bare_main}
 use Rattle.rg_plan.specs.Laws.{IsGoodTurn}
 use Rattle.rg_sched.specs.Contents.{Content, Away, Empty, Held, first_of, rest_of, contents_at, given_of, givens}

@@ -1,18 +1,18 @@
 -- Contents that may be owned, and a behaviour that may begin on one.
-use Rattle.std.proofs.Common.{◌≡◌, refl, ap, sym, ◌∙◌, ℕ, List, [], ◌∷◌, None, Some, pos, false, codes, unwrap_or, slice_get}
+use Rattle.std.proofs.Common.{◌≡◌, refl, ap, sym, ◌∙◌, ℕ, [], ◌∷◌, None, pos, false, codes, unwrap_or}
 use Rattle.rg_base.specs.declared.words.Cap.TheVariants.{Mut, Iso}
 use Rattle.rg_base.specs.declared.words.Manager.TheVariants.{Arena}
 use Rattle.rg_base.specs.declared.ty.Ty.{Ty}
 use Rattle.rg_base.specs.declared.ty.Ty.TheVariants.{Int, Bool, Ref}
 use Rattle.rg_base.specs.declared.object.Label.TheVariants.{Region}
 use Rattle.rg_base.specs.declared.value.Val.TheVariants as val
-use Rattle.rg_tree.specs.Tree.{int, Method, stmt, collect, empty as none, then as next, Class, Tree}
+use Rattle.rg_tree.specs.Tree.{int, Method, stmt, collect, empty as none, then as next, Tree}
 use Rattle.rg_rules.specs.Types.{fields_of}
 use Rattle.rg_rules.proofs.Sources.{to, field_named, method_named, class_named}
 use Rattle.rg_cown.specs.Cargo.{CargoList}
 use Rattle.rg_opening.specs.Beginning.{MayOwn}
 use Rattle.rg_plan.specs.Plans.{Turn as Behaviour}
-use Rattle.rg_sched.specs.Contents.{Content, Empty, Held, contents_at, givens}
+use Rattle.rg_sched.specs.Contents.{Empty, Held, contents_at, givens}
 use Rattle.rg_contents.specs.Rest.{IsReady}
 
 -- class N { v: int; def mut get() { } }
@@ -34,7 +34,7 @@ small = record { cells = record { class = 0; label = Region 0; fields = val.Int 
 owned-example : MayOwn tree (Ref Iso 0) small
 owned-example = record { class = 0; owns = refl; bridge = refl; sound = refl; typed = refl }
 
-class_in : Ty → ℕ
+abbrev class_in : Ty → ℕ
 class_in Int = 0
 class_in Bool = 0
 class_in (Ref cap class) = class

@@ -1,5 +1,5 @@
 -- The content with which a cown begins may be owned.
-use Rattle.std.proofs.Common.{◌≡◌, refl, sym, ap, ◌∙◌, subst, ℕ, zero, suc, Bool as Truth, true, false, ◌&&◌, List, [], ◌∷◌, get_or, map, filter_map}
+use Rattle.std.proofs.Common.{◌≡◌, refl, sym, ap, subst, ℕ, zero, suc, true, false, ◌&&◌, List, [], ◌∷◌, get_or, map, filter_map}
 use Rattle.std.proofs.Common.{Option, None, Some, is_some, slice_get, arith}
 use Rattle.std.proofs.lemmas.Option.{same_Some}
 use Rattle.rg_base.specs.declared.words.Cap.TheVariants.{Iso}
@@ -13,7 +13,7 @@ use Rattle.rg_rules.specs.Types.{type_of, is_array, field_member, members_of, fi
 use Rattle.rg_rules.specs.RightSides.{opening_value}
 use Rattle.rg_cown.specs.declared.cargo.CargoCell.{CargoCell}
 use Rattle.rg_cown.specs.Cargo.{CargoList, named_in, is_sound}
-use Rattle.rg_typed.specs.Typed.{value_fits, fields_fit, values_fit, object_of_class, is_typed}
+use Rattle.rg_typed.specs.Typed.{value_fits, fields_fit, object_of_class, is_typed}
 use Rattle.rg_opening.specs.Beginning.{MayOwn}
 use Rattle.rg_plan.specs.declared.cown.Cown.{Cown}
 use Rattle.rg_plan.specs.declared.cown.Start.{Start}

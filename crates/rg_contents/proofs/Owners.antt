@@ -1,20 +1,17 @@
 -- The `iso` fields of a behaviour's class, each with the cown whose content it takes.
-use Rattle.std.proofs.Common.{◌≡◌, refl, sym, ap, ◌∙◌, ℕ, zero, suc, ◌<◌, Bool as Truth, true, false, List, [], ◌∷◌, length, map, filter_map, Option, None, Some}
+use Rattle.std.proofs.Common.{◌≡◌, refl, sym, ap, ◌∙◌, ℕ, zero, suc, ◌<◌, true, false, List, [], ◌∷◌, length, map, filter_map, Option, None, Some}
 use Rattle.std.proofs.Common.{slice_get, arith}
 use Rattle.std.specs.Prelude.{All}
 use Rattle.std.specs.List.{cons_option}
-use Rattle.std.proofs.lemmas.Option.{slice_get-get_or}
 use Rattle.std.proofs.lemmas.List.Elements.{All-head, All-tail}
-use Rattle.rg_base.specs.declared.words.Cap.{Cap}
 use Rattle.rg_base.specs.declared.words.Cap.TheVariants.{Mut, Tmp, Paused, Imm, Iso}
-use Rattle.rg_base.specs.declared.ty.Ty.{Ty}
 use Rattle.rg_base.specs.declared.ty.Ty.TheVariants.{Ref}
 use Rattle.rg_tree.specs.Tree.{Ty as Written, int, bool, ref, Field, Member, field, method, Class}
 use Rattle.rg_rules.specs.Types.{class_number, type_of, field_member, members_of, fields_of}
 use Rattle.rg_rules.specs.Headers.{is_iso_written}
 use Rattle.rg_plan.specs.declared.cown.Cown.{Cown}
 use Rattle.rg_plan.specs.Plans.{Turn as Behaviour}
-use Rattle.rg_plan.specs.Lines.{owned_type, owned_by, owned_classes, cown_classes}
+use Rattle.rg_plan.specs.Lines.{owned_type, owned_by, cown_classes}
 use Rattle.rg_plan.specs.Laws.{IsGoodTurn}
 
 -- the `iso` fields, and the cowns of these numbers, are of the same classes in the same order

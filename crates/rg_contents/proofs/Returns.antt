@@ -1,6 +1,6 @@
 -- What a behaviour leaves to its cowns may be owned.
-use Rattle.std.proofs.Common.{◌≡◌, refl, sym, ap, ◌∙◌, subst, ℕ, zero, suc, Bool as Truth, true, false, List, [], ◌∷◌, get_or, map, Option, None, Some}
-use Rattle.std.proofs.Common.{slice_get, arith}
+use Rattle.std.proofs.Common.{◌≡◌, refl, sym, ap, ◌∙◌, subst, ℕ, suc, Bool as Truth, List, [], ◌∷◌, map, Some}
+use Rattle.std.proofs.Common.{slice_get}
 use Rattle.std.proofs.lemmas.Option.{same_Some, get_or_from_slice_get}
 use Rattle.rg_base.specs.declared.words.Cap.TheVariants.{Iso}
 use Rattle.rg_base.specs.declared.ty.Ty.{Ty}
@@ -8,9 +8,8 @@ use Rattle.rg_base.specs.declared.ty.Ty.TheVariants.{Ref}
 use Rattle.rg_base.specs.declared.object.Seen.{Seen}
 use Rattle.rg_base.specs.declared.value.Val.{Val}
 use Rattle.rg_base.specs.declared.value.Val.TheVariants.{Nil, Int, Bool, Obj}
-use Rattle.rg_tree.specs.Tree.{Field, Class, Tree}
+use Rattle.rg_tree.specs.Tree.{Field, Tree}
 use Rattle.rg_rules.specs.Types.{type_of, fields_of}
-use Rattle.rg_rules.specs.Headers.{is_iso_written}
 use Rattle.rg_rules.specs.State.{State}
 use Rattle.rg_rules.specs.Runs.{Ending, Running, Done, Stopped}
 use Rattle.rg_cown.specs.Cargo.{CargoList}

@@ -1,6 +1,6 @@
 -- What is at rest behind every schedule may be owned, and each run is of its behaviour.
-use Rattle.std.proofs.Common.{◌≡◌, refl, sym, ap, ◌∙◌, subst, ℕ, Bool as Truth, true, false, if◌then◌else◌, List, [], ◌∷◌, length, get_or, set, replicate}
-use Rattle.std.proofs.Common.{Option, None, Some, slice_get, Ok, zero, suc, arith}
+use Rattle.std.proofs.Common.{◌≡◌, refl, sym, ◌∙◌, subst, ℕ, Bool as Truth, true, false, if◌then◌else◌, List, [], ◌∷◌, length, get_or, replicate}
+use Rattle.std.proofs.Common.{Option, None, Some, slice_get, zero, suc}
 use Rattle.std.proofs.lemmas.Option.{same_Some, get_or_from_slice_get}
 use Rattle.rg_tree.specs.Tree.{Method, Tree}
 use Rattle.rg_rules.specs.Acceptance.{Accepted}
@@ -12,13 +12,12 @@ use Rattle.rg_opening.specs.Laws.{OpeningFits, ContentGoesBack}
 use Rattle.rg_first.specs.First.{IsOfBehaviour}
 use Rattle.rg_first.proofs.Runs.{runs-go_on, first-of_runs}
 use Rattle.rg_plan.specs.Plans.{Turn as Behaviour, PlanOf}
-use Rattle.rg_plan.specs.Rules.{plan_of}
 use Rattle.rg_plan.specs.Laws.{IsGoodCown, IsGoodTurn, IsGoodPlan, PlansAreGood}
-use Rattle.rg_sched.specs.Contents.{Content, contents_at, givens, left_by}
+use Rattle.rg_sched.specs.Contents.{contents_at, givens, left_by}
 use Rattle.rg_sched.specs.Behaviours.{all_methods, idle, run_of}
 use Rattle.rg_sched.specs.Settings.{setting_of}
 use Rattle.rg_sched.specs.Atomic.{Told, tell, World}
-use Rattle.rg_sched.specs.Events.{may_begin, begins, one_more, steps_on, event_by, event_of, event, after, first_world, world_after}
+use Rattle.rg_sched.specs.Events.{may_begin, begins, one_more, event_by, event_of, event, after, first_world}
 use Rattle.rg_contents.specs.Rest.{ImagesMayBeOwned, RestMayBeOwned, IsReady}
 use Rattle.rg_contents.specs.Laws.{IsReached, ContentsMayBeOwned, BeginningIsAllowed, RunsAreOfBehaviours}
 use Rattle.rg_contents.proofs.Lists.{set-all, put-all, all-at}
