@@ -1,5 +1,6 @@
 -- The method of a name in a class is the one of its number among all methods.
-use Rattle.std.proofs.Common.{◌≡◌, refl, sym, ap, ◌∙◌, subst, ℕ, zero, suc, ◌+◌, Bool as Truth, true, false, if◌then◌else◌, bytes_eq, List, [], ◌∷◌, ◌++◌}
+use Rattle.std.proofs.Common.{◌≡◌, refl, sym, ap, ◌∙◌, subst, ℕ, zero, suc, ◌+◌, Bool as Truth, true, false, if◌then◌else◌, bytes_eq, List, [], ◌∷◌}
+use Rattle.std.proofs.Common.{◌++◌}
 use Rattle.std.proofs.Common.{length, filter_map, find, Option, None, Some, option_map, slice_get, arith}
 use Rattle.std.proofs.lemmas.Option.{same_Some}
 use Rattle.rg_tree.specs.Tree.{Name, Method, Class}
@@ -17,7 +18,8 @@ some-of None f b h = none-some h
 some-of (Some a) f b h = (a, refl, same_Some (f a) b h)
 
 -- the first that passes stands at the first place where one does
-found-at : {A : Type 0} (test : A → Truth) (xs : List A) (a : A) (k : ℕ) → find test xs ≡ Some a → first_place test xs ≡ Some k → slice_get xs k ≡ Some a
+found-at : {A : Type 0} (test : A → Truth) (xs : List A) (a : A) (k : ℕ) → find test xs ≡ Some a → first_place test xs ≡ Some k
+    → slice_get xs k ≡ Some a
 found-at test [] a k f p = none-some f
 found-at test (x ∷ xs) a k f p = by (test x) f p (found-at test xs a)
   where

@@ -88,7 +88,8 @@ new-owned t n c m there ordinary array = record {
 
 -- a cown of a plan that is read
 start-owned : (t : Tree) (c : Cown) (image : CargoList) (start : Start) → IsGoodCown t.classes c → c.start ≡ start
-    → ((name : List ℕ) → c.start ≡ Image name → MayOwn t (Ref Iso c.class) image) → MayOwn t (Ref Iso c.class) (start_of t.classes c.class image start)
+    → ((name : List ℕ) → c.start ≡ Image name → MayOwn t (Ref Iso c.class) image)
+    → MayOwn t (Ref Iso c.class) (start_of t.classes c.class image start)
 start-owned t c image (New m) good is images =
     new-owned t c.class good.class m good.there good.ordinary (subst (IsGoodStart good.class) is good.start)
 start-owned t c image (Image name) good is images = images name is

@@ -96,6 +96,8 @@ takes-by classes cowns (f ∷ fs) ns below same = by (owns_or_not classes f.ty) 
         one c.0 c.1 iso (is ∙ ap (Ref Iso) both.0) (rest ns (All-tail (λ n. n < length cowns) n ns below) both.1)
 
 -- so it is for a behaviour of a plan that is read
-pub turn-takes : (classes : List Class) (cowns : List Cown) (b : Behaviour) → IsGoodTurn classes cowns b → Takes classes cowns (fields_of classes b.class) b.cowns
+pub turn-takes : (classes : List Class) (cowns : List Cown) (b : Behaviour) → IsGoodTurn classes cowns b
+    → Takes classes cowns (fields_of classes b.class) b.cowns
 turn-takes classes cowns b good =
-    takes-by classes cowns (fields_of classes b.class) b.cowns good.below (sym (owned-fields classes (members_of (slice_get classes b.class))) ∙ good.owned)
+    takes-by classes cowns (fields_of classes b.class) b.cowns good.below
+    (sym (owned-fields classes (members_of (slice_get classes b.class))) ∙ good.owned)
