@@ -1,25 +1,12 @@
 -- Which programs raise a module (docs/architecture.md, "Modules"): accepted ones within the limits, whose module it is, with numbers for names.
-use Rattle.std.specs.Prelude.{◌≡◌, ℕ, suc, List, [], ◌∷◌, length, Option, Some, None, Ok}
-use Rattle.rg_base.specs.declared.token.Token.{Token}
-use Rattle.rg_base.specs.Tokens.{cut}
+use Rattle.std.specs.Prelude.{◌≡◌, ℕ, suc, List, [], ◌∷◌, length, Option, Some, None}
 use Rattle.rg_tree.specs.Tree.{Ty, stmt, StmtKind, declare, assign, assign_element, call, swap, branch, while, enter, print, collect, return}
 use Rattle.rg_tree.specs.Tree.{Else, no_else, otherwise, Block, empty, then as next, Param, Method, Member, field, method, Class, Tree}
-use Rattle.rg_tree.specs.Canonical.{canon}
-use Rattle.rg_tree.specs.Grammar.{Spells}
 use Rattle.rg_rules.specs.Acceptance.{Accepted}
+use Rattle.rg_limits.specs.Limits.{IsWithinLimits}
 use Rattle.rg_module.specs.Parts.{Parts}
 use Rattle.rg_build.specs.ModuleOf.{module_of}
 use Rattle.rg_verify.specs.Naming.{class_name, field_name, method_name, variable_name}
-
--- Limits
-
--- The canonical text of a program passes no limit, but for the one on the bytes of a source: it is cut into tokens, and these spell some program.
--- Nothing here ties that one to the program.
-pub record IsWithinLimits (t : Tree) : Type 0 where
-  pub tokens : List Token
-  pub read : Tree
-  pub is_cut : cut (canon t) ≡ Ok tokens
-  pub is_spelt : Spells (canon t) read tokens
 
 -- Names. The variable of slot k is `vk`; slot 0 of a method has `self`.
 

@@ -29,3 +29,5 @@ mod report;
 mod streams;
 #[cfg(test)]
 mod tokens;
+#[cfg(test)]
+mod verified;

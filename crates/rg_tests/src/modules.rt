@@ -7,7 +7,7 @@ use std::alloc::Global;
 use std::test::*;
 
 // `main arena { print 7; }`, on one line: `mark 1, int 7, print, mark 1, end 0, halt`.
-const SEVEN: &[u8; 59] = b"RGM1\0\0\0\0\0\0\0\0\0\0\0\0\x06\
+pub(crate) const SEVEN: &[u8; 59] = b"RGM1\0\0\0\0\0\0\0\0\0\0\0\0\x06\
     \0\0\0\0\0\0\0\0\x01\0\0\0\0\
     \x01\0\0\0\0\0\0\0\x07\
     \x2e\
@@ -16,7 +16,7 @@ const SEVEN: &[u8; 59] = b"RGM1\0\0\0\0\0\0\0\0\0\0\0\0\x06\
     \x32";
 
 // The same with `pop` in place of `print`.
-const POPPED: &[u8; 59] = b"RGM1\0\0\0\0\0\0\0\0\0\0\0\0\x06\
+pub(crate) const POPPED: &[u8; 59] = b"RGM1\0\0\0\0\0\0\0\0\0\0\0\0\x06\
     \0\0\0\0\0\0\0\0\x01\0\0\0\0\
     \x01\0\0\0\0\0\0\0\x07\
     \x30\
@@ -27,7 +27,7 @@ const POPPED: &[u8; 59] = b"RGM1\0\0\0\0\0\0\0\0\0\0\0\0\x06\
 // Manager `trace`; a tmp class with fields `int` and `iso` of class 0, and an array class of
 // `bool`; a method of class 0 with receiver `paused`, a parameter `bool` and a result `int`;
 // `halt`, `mark 9` with the map `paused` of class 0 and `bool`, `load 4`, `ret`.
-const RICH: &[u8] = b"RGM1\x02\
+pub(crate) const RICH: &[u8] = b"RGM1\x02\
     \0\0\0\x02\x01\0\0\0\0\x02\0\x06\0\0\0\0\0\x01\x01\
     \0\0\0\x01\0\0\0\0\x04\0\0\0\x01\x01\x01\0\
     \0\0\0\x04\

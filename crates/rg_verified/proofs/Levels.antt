@@ -11,7 +11,7 @@ use Rattle.rg_bodies.specs.Bodies.{RaisedBody}
 use Rattle.rg_bodies.specs.Standing.{IsWithin, AreWithin}
 use Rattle.rg_numbered.specs.Numbered.{numbered_assign, numbered_swap, numbered_enter, numbered_kind, numbered_else, numbered_block}
 use Rattle.rg_verified.specs.Bodies.{members_numbered, classes_numbered, bodies_numbered}
-use Rattle.rg_verified.specs.Depth.{kind_levels, else_levels, block_levels, AreMembersShallow, AreClassesShallow, IsShallow}
+use Rattle.rg_limits.specs.Depth.{kind_levels, else_levels, block_levels, AreMembersShallow, AreClassesShallow, IsShallow}
 
 module _ (cs : List Class) where
   assign-depth : (s : Scope) (x : Variable) (fs : List Name) (r : numbers.Right) → kind_depth (numbered_assign cs s x fs r) ≡ 0

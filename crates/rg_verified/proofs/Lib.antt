@@ -3,14 +3,11 @@ mod Alike
 mod Back
 mod BodyCode
 mod Endings
-mod Exits
 mod Fits
 mod Found
 mod Levels
 mod Names
 mod Raised
 mod SameCallees
-mod Tables
-mod ToldBounded
-mod TreeNumbered
+mod Verdicts
 mod Written

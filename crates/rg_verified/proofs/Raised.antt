@@ -7,6 +7,8 @@ use Rattle.rg_rules.specs.Acceptance.{Accepted}
 use Rattle.rg_rules.proofs.Acceptance.{Accepted-parts, Accepted-method}
 use Rattle.rg_code.specs.declared.op.Op.{Op}
 use Rattle.rg_code.specs.Lowering.{methods_code, lowered}
+use Rattle.rg_limits.specs.Limits.{IsWithinLimits}
+use Rattle.rg_limits.specs.Laws.{LimitsBound}
 use Rattle.rg_module.specs.Parts.{Parts}
 use Rattle.rg_build.specs.ModuleOf.{heads_of, module_of}
 use Rattle.rg_verify.specs.declared.callee.Callee.{Callee}
@@ -16,7 +18,6 @@ use Rattle.rg_classes.specs.Order.{callees_of}
 use Rattle.rg_bodies.specs.Bodies.{bodies_told}
 use Rattle.rg_bodies.specs.Rows.{given_by}
 use Rattle.rg_bodies.specs.Standing.{main_ops, BodiesStand, StandingBodiesAreTold}
-use Rattle.rg_raised.specs.Raises.{IsWithinLimits}
 use Rattle.rg_raised.specs.Raises.{IsNumbered as HasNumbers}
 use Rattle.rg_raised.specs.Told.{module_told, tree_named, program_told}
 use Rattle.rg_numbered.specs.ModuleNames.{HasModuleNames}
@@ -24,7 +25,7 @@ use Rattle.rg_numbered.proofs.Classes.{good-written}
 use Rattle.rg_numbered.specs.Laws.{IsNumbered, AcceptedAreNumbered}
 use Rattle.rg_fitted.specs.Laws.{given_of, ModulesFit}
 use Rattle.rg_verified.specs.Bodies.{bodies_numbered}
-use Rattle.rg_verified.specs.Told.{TellsAlike, TellsRaised, LimitsBound}
+use Rattle.rg_verified.specs.Told.{TellsAlike, TellsRaised}
 use Rattle.rg_verified.proofs.Back.{GoodIsBack, headers-are-back}
 use Rattle.rg_verified.proofs.BodyCode.{AreAllNumbered, main-same, lowered-code}
 use Rattle.rg_verified.proofs.Fits.{methods-fit}
@@ -32,7 +33,7 @@ use Rattle.rg_verified.proofs.Found.{all-numbered}
 use Rattle.rg_verified.proofs.Levels.{shallow-within}
 use Rattle.rg_verified.proofs.Names.{module-names}
 use Rattle.rg_verified.proofs.SameCallees.{callees-same}
-use Rattle.rg_verified.proofs.Tables.{few-tables}
+use Rattle.rg_told.proofs.Tables.{few-tables}
 use Rattle.rg_verified.proofs.Written.{named-alike}
 
 module _ (code : BlocksHaveTheirCode) (numbers : AcceptedAreNumbered) (fit : ModulesFit) (told : StandingBodiesAreTold)
@@ -68,11 +69,11 @@ module _ (code : BlocksHaveTheirCode) (numbers : AcceptedAreNumbered) (fit : Mod
     own-told : module_told (module_of t) ≡ Some (bodies_numbered t)
     own-told =
         let m = module_of t in
-        let bounded = limits t a n w in
+        let bounded = limits t w in
         let hs = heads_of t.classes in
-        ap (λ (b : Truth). ◌>>◌ (test b) (bodies_told (given_by m (callees_of hs)) BRACKETS hs)) (few-tables t n bounded.parts)
+        ap (λ (b : Truth). ◌>>◌ (test b) (bodies_told (given_by m (callees_of hs)) BRACKETS hs)) (few-tables t n bounded.0)
         ∙ ap (λ (ks : List Callee). bodies_told (given_by m ks) BRACKETS hs) (sym (callees-same t.classes))
-        ∙ told (given_of t) BRACKETS hs (bodies_numbered t) (shallow-within BRACKETS t bounded.depth) stand
+        ∙ told (given_of t) BRACKETS hs (bodies_numbered t) (shallow-within BRACKETS t bounded.1) stand
 
     own-alike : TellsAlike (program_told (module_of t)) t
     own-alike = record {

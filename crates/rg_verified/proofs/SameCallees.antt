@@ -1,7 +1,5 @@
 -- The methods of a program, as calls need them, are those of the heads of its methods.
-use Rattle.std.proofs.Common.{◌≡◌, refl, sym, ap, ◌∙◌, ℕ, suc, ◌+◌, ◌==◌, ◌≤◌, Bool as Truth, true, false, if◌then◌else◌, List, [], ◌∷◌, ◌++◌, length}
-use Rattle.std.proofs.Common.{arith}
-use Rattle.std.proofs.lemmas.Bool.Decides.{nat_tests}
+use Rattle.std.proofs.Common.{◌≡◌, refl, sym, ap, ◌∙◌, ℕ, suc, ◌+◌, List, [], ◌∷◌, ◌++◌, length, arith}
 use Rattle.rg_tree.specs.Tree.{Member, field, method, Class}
 use Rattle.rg_rules.specs.Types.{method_result}
 use Rattle.rg_code.specs.Lowering.{methods_among}
@@ -11,23 +9,7 @@ use Rattle.rg_verify.specs.declared.callee.Callee.{Callee}
 use Rattle.rg_classes.specs.Order as order
 use Rattle.rg_classes.specs.Order.{place_of, callees_of}
 use Rattle.rg_fitted.specs.Callees.{class_callees, callees_from, callees}
-
--- no method of a class from this one on came before
-abbrev pub Fresh : (before place c : ℕ) → Type 0
-Fresh before place c = (d : ℕ) → c ≤ d → place_of before place d ≡ 0
-
-pub other-class : (c k d : ℕ) → suc c ≤ d → place_of c k d ≡ 0
-other-class c k d l = let e : (d == c) ≡ false = grind (arith, nat_tests) in ap (λ (b : Truth). if b then k else 0) e
-
-pub own-class : (c k : ℕ) → place_of c k c ≡ k
-own-class c k = let e : (c == c) ≡ true = grind (arith, nat_tests) in ap (λ (b : Truth). if b then k else 0) e
-
-pub first-class : (d : ℕ) → place_of 0 0 d ≡ 0
-first-class d = by (d == 0)
-  where
-    by : (b : Truth) → ◌≡◌ {A = ℕ} (if b then 0 else 0) 0
-    by true = refl
-    by false = refl
+use Rattle.rg_told.proofs.Places.{Fresh, other-class, own-class, first-class}
 
 module _ (cs : List Class) where
   members-same : (n before place p c : ℕ) (ms : List Member) (hs : List Head) (tail : ℕ → List Callee) → place_of before place c ≡ p →

@@ -1,4 +1,5 @@
--- Programs that raise a module are told by it (docs/architecture.md, "Modules").
+-- Programs that raise a module are told by it, and what a verifier says of a module (docs/architecture.md, "Modules").
 pub mod Bodies
-pub mod Depth
+pub mod Inner
 pub mod Told
+pub mod Verdict

@@ -2,23 +2,33 @@
 //! (docs/architecture.md, "Modules").
 
 ghost use Rattle.rg_raised.specs.Told.{program_told};
-ghost use Rattle.rg_verified.specs.Told.{LimitsBound, RaisedAlike, TellsRaised};
+ghost use Rattle.rg_verified.specs.Told.{RaisedAlike, TellsRaised, ToldRaisesIfAny};
 
-/// Each program that raises a module is told by it, but for lines that no mark has, if limits bound
-/// what a program has.
+/// Each program that raises a module is told by it, but for lines that no mark has.
 pub fn raised_are_told()
-    ensures { LimitsBound → TellsRaised program_told }
+    ensures { TellsRaised program_told }
 {
+    rg_limits::limits_bound();
     rg_verify::blocks_have_their_code();
     rg_bodies::standing_bodies_are_told();
     rg_numbered::accepted_are_numbered();
     rg_fitted::modules_fit();
 }
 
-/// Programs that raise one module are the same but for lines that no mark has, if limits bound what
-/// a program has.
+/// Programs that raise one module are the same but for lines that no mark has.
 pub fn raised_alike()
-    ensures { LimitsBound → RaisedAlike }
+    ensures { RaisedAlike }
 {
     raised_are_told();
+}
+
+/// Where some program raises a module, the program that it tells does.
+pub fn told_raises_if_any()
+    ensures { ToldRaisesIfAny }
+{
+    raised_are_told();
+    rg_told::told_are_numbered();
+    rg_limits::limits_are_lineless();
+    rg_lines::same_acceptance();
+    rg_same::same_module();
 }

@@ -1,9 +1,11 @@
-//! The programs that raise a module (docs/architecture.md, "Modules"), as laws: each of them is
-//! told by the module, but for lines that no mark has, and so any two of them are alike
-//! (`specs/Told`). Both ask that what passes the limits of a text has few parts and isn't deep
-//! (`LimitsBound`), which isn't proved here. No call verifies a module.
+//! The programs that raise a module (docs/architecture.md, "Modules"). As laws: each of them is
+//! told by the module, but for lines that no mark has, and so any two of them are alike, and where
+//! there is one, the program that is told is one (`specs/Told`). `verify` answers one exactly where
+//! there is one, and else `E92` (`specs/Verdict`), or want of memory.
 #![tactic(auto)]
 
 mod laws;
+mod whole;
 
-pub use laws::{raised_alike, raised_are_told};
+pub use laws::{raised_alike, raised_are_told, told_raises_if_any};
+pub use whole::verify;

@@ -1,7 +1,7 @@
 -- Two programs that raise a module are both told by it.
 use Rattle.rg_raised.specs.Told.{program_told}
-use Rattle.rg_verified.proofs.Alike as alike
+use Rattle.rg_verified.proofs.Alike.{raised-alike}
 use Rattle.rg_verified.proofs.laws.raised_alike.Goals as goal
 
 pub returns : goal.returns
-returns c = λ limits. alike.raised-alike program_told (c.raised_are_told.ensures limits)
+returns c = raised-alike program_told c.raised_are_told.ensures

@@ -1,0 +1,4 @@
+-- The lemmas by which the law is proved.
+mod Managers
+mod Shown
+mod Lasts

@@ -1,0 +1,3 @@
+-- What private functions answer.
+pub mod Telling
+pub mod Fine

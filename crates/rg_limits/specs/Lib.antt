@@ -1,0 +1,11 @@
+-- The programs that pass no limit of a source, by their tree and their canonical text (docs/language.md, "Limits").
+pub mod Parts
+pub mod Depth
+pub mod Each
+pub mod Signs
+pub mod Numbers
+pub mod Brackets
+pub mod Limits
+pub mod Plain
+pub mod Laws
+pub mod Inner

@@ -1,0 +1,2 @@
+-- What always holds of the program that a module tells (docs/architecture.md, "Modules").
+pub mod Laws

@@ -1,0 +1,16 @@
+//! The laws of the program that a module tells, as contracts of functions that do nothing
+//! (docs/architecture.md, "Modules").
+
+ghost use Rattle.rg_told.specs.Laws.{ToldAreBounded, ToldAreNumbered};
+
+/// It has numbers for names.
+pub fn told_are_numbered()
+    ensures { ToldAreNumbered }
+{}
+
+/// It has no more parts than it may, and its blocks are no deeper than brackets may be.
+pub fn told_are_bounded()
+    ensures { ToldAreBounded }
+{
+    rg_bodies::bodies_are_told();
+}

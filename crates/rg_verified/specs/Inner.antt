@@ -1,0 +1,2 @@
+-- Joins the parts of the verifier (docs/architecture.md, "Modules").
+pub mod Verdicts
