@@ -11,5 +11,5 @@ mod Short
 mod Spelt
 mod Environments
 mod Points
-mod Marks
+pub mod Marks
 mod Examples

@@ -18,7 +18,7 @@ marks_by : (b : Bool) (a c : ℕ) → (if b then suc a else a) + c ≡ (if b the
 marks_by true a c = omega arith
 marks_by false a c = refl
 
-marks-then : (a b : List Op) → marks (a ++ b) ≡ marks a + marks b
+pub marks-then : (a b : List Op) → marks (a ++ b) ≡ marks a + marks b
 marks-then [] b = omega arith
 marks-then (o ∷ os) b = rw (marks-then os b) (sym (marks_by (is_mark (Some o)) (marks os) (marks b)))
 
@@ -43,18 +43,21 @@ mutual
   kind-marks : (cs : List Class) (sc : Scope) (at line : ℕ) (k : StmtKind) → marks (kind_code cs sc at line k) ≡ suc (length (inner_maps cs sc k))
   kind-marks cs sc at line (declare x t r) =
       ap suc (markless (right_code cs sc (at + 1) r ++ i.Store (length sc) ∷ pace_code r) (behind_right cs sc (at + 1) r (i.Store (length sc)) refl))
-  kind-marks cs sc at line (assign p r) = ap suc (markless (assign_code cs sc (at + 1) p.base p.fields r) (assign-quiet cs sc (at + 1) p.base p.fields r))
+  kind-marks cs sc at line (assign p r) =
+      ap suc (markless (assign_code cs sc (at + 1) p.base p.fields r) (assign-quiet cs sc (at + 1) p.base p.fields r))
   kind-marks cs sc at line (assign_element q e r) =
       ap suc (markless (assign_element_code cs sc (at + 1) q e r) (assign_element-quiet cs sc (at + 1) q e r))
   kind-marks cs sc at line (call c) =
       ap suc (markless (call_code cs sc (at + 1) c ++ dropped_code (call_result cs sc c))
-      (quiet-then (call_code cs sc (at + 1) c) (dropped_code (call_result cs sc c)) (call-quiet cs sc (at + 1) c) (dropped-quiet (call_result cs sc c))))
+      (quiet-then (call_code cs sc (at + 1) c) (dropped_code (call_result cs sc c)) (call-quiet cs sc (at + 1) c) (dropped-quiet
+      (call_result cs sc c))))
   kind-marks cs sc at line (swap y p) = ap suc (markless (swap_code cs sc y p.base p.fields) (swap-quiet cs sc y p.base p.fields))
   kind-marks cs sc at line (branch e b other) =
       let inside = at + 1 + length (whole_code cs sc (at + 1) e) + 1 in
       let block = block_code cs sc inside b in
       let others = else_code cs sc (inside + length block + 2) line other in
-      let front = skips-whole cs sc (at + 1) e (i.JumpFalse (inside + length block + else_gap other) ∷ (block ++ i.Mark line ∷ i.End (length sc) ∷ others)) in
+      let front = skips-whole cs sc (at + 1) e (i.JumpFalse (inside + length block + else_gap other) ∷ (block ++ i.Mark line ∷ i.End
+      (length sc) ∷ others)) in
       let all = marks-then block (i.Mark line ∷ i.End (length sc) ∷ others) in
       let here = block-marks cs sc inside true b in
       let there = else-marks cs sc (inside + length block + 2) line other in
@@ -63,7 +66,8 @@ mutual
   kind-marks cs sc at line (while e b) =
       let inside = at + 1 + length (whole_code cs sc (at + 1) e) + 1 in
       let block = block_code cs sc inside b in
-      let front = skips-whole cs sc (at + 1) e (i.JumpFalse (inside + length block + 3) ∷ (block ++ i.Mark line ∷ i.End (length sc) ∷ i.Jump at ∷ [])) in
+      let front = skips-whole cs sc (at + 1) e (i.JumpFalse (inside + length block + 3) ∷ (block ++ i.Mark line ∷ i.End
+      (length sc) ∷ i.Jump at ∷ [])) in
       let all = marks-then block (i.Mark line ∷ i.End (length sc) ∷ i.Jump at ∷ []) in
       let here = block-marks cs sc inside true b in
       omega (arith, front, all, here)
@@ -90,7 +94,7 @@ mutual
       let here = block-marks cs sc (at + 1) true b in omega (arith, all, here)
 
   -- a block has those of its statements, and maybe one at its end
-  block-marks : (cs : List Class) (sc : Scope) (at : ℕ) (marked : Bool) (b : Block) →
+  pub block-marks : (cs : List Class) (sc : Scope) (at : ℕ) (marked : Bool) (b : Block) →
       marks (block_code cs sc at b) + one marked ≡ length (block_maps cs marked sc b)
   block-marks cs sc at true none = refl
   block-marks cs sc at false none = refl
@@ -107,7 +111,7 @@ end-marks : (line : ℕ) (result : Option Written) → marks (method_end_code li
 end-marks line None = refl
 end-marks line (Some t) = refl
 
-method-marks : (cs : List Class) (at c : ℕ) (m : Method) → marks (method_code cs at c m) ≡ length (method_maps cs c m)
+pub method-marks : (cs : List Class) (at c : ℕ) (m : Method) → marks (method_code cs at c m) ≡ length (method_maps cs c m)
 method-marks cs at c m =
     let block = block_code cs (method_scope cs c m) at m.body in
     marks-then block (method_end_code m.line m.result) ∙ ap (λ (n : ℕ). marks block + n) (end-marks m.line m.result)

@@ -29,7 +29,7 @@ use Rattle.rg_numbered.proofs.Bodies.{accepted-numbered}
 use Rattle.rg_fitted.specs.Laws.{end_mark, MapsStand, ModulesFit, given_of, body_code}
 use Rattle.rg_fitted.proofs.Laid.{Laid, skip}
 use Rattle.rg_fitted.proofs.Callees.{among, callees-stand}
-use Rattle.rg_fitted.proofs.CodeMarks.{marks-then, block-marks, method-marks}
+use Rattle.rg_build.proofs.Marks.{marks-then, block-marks, method-marks}
 use Rattle.rg_verify.specs.Standing.{returns, Closes}
 use Rattle.rg_fitted.proofs.Ends.{ends-returns, closes-by-return, closes-by-mark}
 use Rattle.rg_fitted.proofs.Fit.{accepted-fit}

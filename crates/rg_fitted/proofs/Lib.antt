@@ -4,7 +4,5 @@ mod Callees
 mod Maps
 mod Marks
 mod Fit
-mod Quiet
-mod CodeMarks
 mod Ends
 mod Bodies

@@ -1,10 +1,15 @@
 -- Worked examples of the limits: a small program inside, and one past each.
-use Rattle.std.proofs.Common.{◌≡◌, refl, ℕ, zero, suc, pos, negsuc, [], ◌∷◌, codes, Some, true, false, arith}
+use Rattle.std.proofs.Common.{◌≡◌, refl, ℕ, zero, suc, ◌+◌, pos, negsuc, [], ◌∷◌, ◌++◌, codes, replicate, Some, None, true, false, arith}
+use Rattle.rg_base.specs.declared.limits.TheConstants.{BRACKETS}
+use Rattle.rg_base.specs.declared.words.Cap.TheVariants.{Mut}
 use Rattle.rg_base.specs.declared.words.Manager.TheVariants.{Arena}
 use Rattle.rg_tree.specs.declared.rows.BinOp.TheVariants.{Or, And, Eq, Add, Mul}
-use Rattle.rg_tree.specs.Tree.{Expr, number, boolean, neg, not, binary, element, is_nil, value, stmt}
-use Rattle.rg_tree.specs.Tree.{assign_element, call, while, print, Block, empty, then as next, Tree, Path}
+use Rattle.rg_tree.specs.Tree.{Expr, number, boolean, neg, not, binary, element, is_nil, int, value, stmt, declare}
+use Rattle.rg_tree.specs.Tree.{assign_element, call, while, enter, print, Block, empty, then as next, Param, method, Class, Tree, Path}
 use Rattle.rg_tree.specs.Canonical.{canon}
+use Rattle.rg_rules.specs.Names.{block_names}
+use Rattle.rg_limits.specs.Parts.{HasFewMembers}
+use Rattle.rg_limits.specs.Depth.{block_levels}
 use Rattle.rg_limits.specs.Each.{own_exprs}
 use Rattle.rg_limits.specs.Signs.{expr_signs, exprs_signs, HasFewSigns}
 use Rattle.rg_limits.specs.Numbers.{HasSmall}
@@ -59,5 +64,53 @@ the_next_is_not = omega arith
 three_open : most_open (codes "{(a[b]+c)}()") ≡ 3
 three_open = refl
 
-in_a_text : most_open (canon (main (next (stmt 1 (print (binary Mul (binary Or (boolean true) (boolean true)) (element x (boolean true))))) empty))) ≡ 2
-in_a_text = refl
+-- `main arena { print (true or true) * x[true]; }`
+abbrev in_a_text : Block
+in_a_text = next (stmt 1 (print (binary Mul (binary Or (boolean true) (boolean true)) (element x (boolean true))))) empty
+
+two_open : most_open (canon (main in_a_text)) ≡ 2
+two_open = refl
+
+-- so many blocks in one another
+abbrev nested : ℕ → Block
+nested zero = empty
+nested (suc n) = next (stmt 1 (while (boolean true) (nested n))) empty
+
+a_block_opens_one : most_open (canon (main (nested 2))) ≡ 3
+a_block_opens_one = refl
+
+as_many_open_as_may_be : most_open (replicate 64 40) ≡ BRACKETS
+as_many_open_as_may_be = refl
+
+one_open_too_many : most_open (replicate 32 40 ++ replicate 33 123) ≡ BRACKETS + 1
+one_open_too_many = refl
+
+its_depth : block_levels (nested 64) ≡ BRACKETS + 1
+its_depth = refl
+
+-- Names: those of `let` and `enter` count, in blocks too.
+names_of_a_body : block_names (next (stmt 1 (declare (codes "a") int (value one))) (next (stmt 2 (enter x (codes "b") (next (stmt 3 (declare (codes
+    "c") int (value one))) empty) None)) empty)) ≡ 3
+names_of_a_body = refl
+
+-- Parts: the parameters of each method are tested, and the number of fields and of methods apart.
+
+-- a parameter
+abbrev p : Param
+p = record { name = codes "p"; ty = int }
+
+-- a class with a method of so many parameters
+abbrev with_params : ℕ → Class
+with_params n = record {
+  name = codes "C";
+  is_tmp = false;
+  element = None;
+  members = method (record { receiver = Mut; name = codes "m"; params = replicate n p; result = None; body = empty; line = 1 }) ∷ [];
+  line = 1;
+}
+
+sixteen_parameters : HasFewMembers (with_params 16)
+sixteen_parameters = record { fields = omega arith; methods = omega arith; params = (omega arith, tt) }
+
+seventeen_parameters : HasFewMembers (with_params 17) → ⊥
+seventeen_parameters h = omega (arith, h.params.0)

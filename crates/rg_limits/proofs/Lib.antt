@@ -4,4 +4,7 @@ mod Telling
 mod Opened
 mod Together
 mod Lineless
+mod Moves
+mod EvenTexts
+mod BlocksOpen
 mod Examples

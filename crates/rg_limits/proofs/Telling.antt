@@ -6,7 +6,8 @@ use Rattle.std.specs.List.{AllByRecursion}
 abbrev pub AllGoOn : {X : Type 0} (P : X → Type 0) (rest whole : List X) → Type 0
 AllGoOn P rest whole = AllByRecursion P rest → AllByRecursion P whole
 
-pub all-goes-on : {X : Type 0} (P : X → Type 0) (rest tail whole : List X) (x : X) → rest ≡ x ∷ tail → AllGoOn P rest whole → P x → AllGoOn P tail whole
+pub all-goes-on : {X : Type 0} (P : X → Type 0) (rest tail whole : List X) (x : X) → rest ≡ x ∷ tail → AllGoOn P rest whole → P x
+    → AllGoOn P tail whole
 all-goes-on P rest tail whole x e h p = λ others. (subst (λ (r : List _). AllGoOn P r whole) e h) (p, others)
 
 -- where it doesn't hold of one, it doesn't hold of all

@@ -13,7 +13,7 @@ use Rattle.rg_limits.specs.Brackets.{most_open}
 
 -- A program has no more classes, fields, methods, parameters, names and signs than it may, and no number that no source can write. Its blocks
 -- and the brackets of its text are no deeper than they may be. The `{` of a block is such a bracket, so the depth of blocks says more only where a
--- name has a bracket in it, which no source has.
+-- name has a bracket in it that closes, which no source has (the law `BracketsBoundBlocks`).
 pub record IsWithinLimits (t : Tree) : Type 0 where
   pub parts : HasFewParts t
   pub names : FewNames t

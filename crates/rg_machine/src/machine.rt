@@ -19,7 +19,7 @@ ghost use Rattle.rg_machine.specs.Keeps.{GoesBack};
 ghost use Rattle.rg_machine.specs.Parts.{SameStore, machine_in, opening, val_in};
 ghost use Rattle.rg_machine.specs.Cores.{core_of};
 ghost use Rattle.rg_machine.specs.Parts.{with_word};
-ghost use Rattle.rg_machine.specs.Stands.{Leads};
+ghost use Rattle.rg_machine.specs.Stands.{Leads, Stands};
 
 mod arrays;
 mod call;
@@ -90,6 +90,27 @@ impl Machine {
             printed: None,
             equal: Vec::new(alloc),
         })
+    }
+
+    /// A machine over a heap and frames: nothing is on the stack, and nothing is printed.
+    pub fn over(alloc: Global, heap: Heap, frames: Frames, at: usize) -> Machine
+        requires { Stands heap frames }
+        ensures { result ≡ record {
+          heap = heap;
+          frames = frames;
+          words = [];
+          at = at;
+          printed = None;
+        } }
+    {
+        Machine {
+            heap,
+            frames,
+            stack: Vec::new(alloc),
+            at,
+            printed: None,
+            equal: Vec::new(alloc),
+        }
     }
 
     /// The object with a serial, as it is shown; None where none that is held has it.

@@ -14,6 +14,7 @@ pub mod Given
 pub mod Order
 pub mod Step
 pub mod Opening
+pub mod Behaviour
 pub mod Run
 pub mod Refusal
 pub mod Read

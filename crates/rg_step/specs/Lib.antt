@@ -10,3 +10,5 @@ pub mod States
 pub mod Yeses
 pub mod Stepping
 pub mod Pacers
+pub mod Behaviours
+pub mod Begins

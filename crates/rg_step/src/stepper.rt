@@ -19,6 +19,9 @@ ghost use Rattle.rg_step.specs.Stepping.{IsFresh};
 ghost use Rattle.rg_step.specs.Steps.{counted_by};
 ghost use Rattle.rg_step.specs.Stepping.{fresh, nothing, numbers_of};
 
+mod behaviour;
+mod content;
+
 use crate::collecting::{follow, is_made};
 use crate::kept::{Kept, Since};
 use crate::leap::leap;

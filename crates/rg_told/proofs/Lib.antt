@@ -1,4 +1,5 @@
--- Lemmas on the program that a module tells; Places serves the crate above, too.
+-- Lemmas on the program that a module tells; those with pub are for the crate above.
 mod Bounded
 mod Numbered
 pub mod Places
+pub mod Tables

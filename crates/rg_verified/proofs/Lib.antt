@@ -9,6 +9,5 @@ mod Levels
 mod Names
 mod Raised
 mod SameCallees
-mod Tables
 mod Verdicts
 mod Written

@@ -33,7 +33,7 @@ use Rattle.rg_verified.proofs.Found.{all-numbered}
 use Rattle.rg_verified.proofs.Levels.{shallow-within}
 use Rattle.rg_verified.proofs.Names.{module-names}
 use Rattle.rg_verified.proofs.SameCallees.{callees-same}
-use Rattle.rg_verified.proofs.Tables.{few-tables}
+use Rattle.rg_told.proofs.Tables.{few-tables}
 use Rattle.rg_verified.proofs.Written.{named-alike}
 
 module _ (code : BlocksHaveTheirCode) (numbers : AcceptedAreNumbered) (fit : ModulesFit) (told : StandingBodiesAreTold)

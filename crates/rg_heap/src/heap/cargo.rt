@@ -1,7 +1,7 @@
 //! Closed regions as lists, made and read (docs/architecture.md, "The heap" and "Cargo").
 
-ghost use Rattle.std.specs.Prelude.{◌≡◌, ◌≢◌, ℕ, IfOk, OnOk, OnErr, length};
-ghost use Rattle.rg_cells.specs.Table.{high_of};
+ghost use Rattle.std.specs.Prelude.{◌≡◌, ◌≢◌, ℕ, IfNone, IfOk, IfSome, OnOk, OnErr, length};
+ghost use Rattle.rg_cells.specs.Table.{HasSerial, LacksSerial, high_of};
 ghost use Rattle.rg_regions.specs.Table.{IsBridge};
 ghost use Rattle.rg_cown.specs.Cargo.{SoundCargo};
 ghost use Rattle.rg_cown.specs.Contents.{cargo_at};
@@ -47,5 +47,13 @@ impl Heap {
         ensures sound { IfOk result (λ c. SoundCargo c) }
     {
         unload(alloc, &self.cells, &self.regions, bridge)
+    }
+
+    /// The slot of the held cell with a serial, if one has it. It is looked for among all slots.
+    pub fn find(&self, serial: u64) -> Option<usize>
+        ensures some { IfSome result (λ slot. HasSerial self.now.cells.heap slot serial) }
+        ensures none { IfNone result (LacksSerial self.now.cells.heap serial) }
+    {
+        self.cells.find(serial)
     }
 }

@@ -27,7 +27,7 @@ use Rattle.rg_stack.proofs.Judgements.Owes.{roomy_of}
 use Rattle.rg_stack.proofs.Callers.Step.{mirrors-shows}
 
 -- main's items lie where its code begins
-main_lies : (t : Tree) → Accepted t → (l : Level) → l.scope ≡ [] → StandsIn (lowered t).ops l 0 (main_code t)
+pub main_lies : (t : Tree) → Accepted t → (l : Level) → l.scope ≡ [] → StandsIn (lowered t).ops l 0 (main_code t)
     → Lies t.classes (lowered t).ops (l ∷ []) ((plain.opening t []).items) 0
 main_lies t accepted l empty stands =
     let p = Accepted-parts t accepted in

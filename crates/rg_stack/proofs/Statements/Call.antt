@@ -89,7 +89,7 @@ module _ (classes : List Class) (code : Code) (j : Item) (rest : List Item) wher
   Behind (Some t) target back ls = TakesResult code.ops target back ls (λ levels here. Lies classes code.ops levels (j ∷ rest) here)
 
   -- the items of a body begin where the method's code stands
-  lies_method : (result : Option Written) (line : ℕ) (b : Block) (l : Level) (ls : List Level) (at : ℕ)
+  pub lies_method : (result : Option Written) (line : ℕ) (b : Block) (l : Level) (ls : List Level) (at : ℕ)
       → StandsIn code.ops l at (block_code classes l.scope at b ++ method_end_code line result)
       → BodyFits result b → Behind result l.target l.back ls
       → Lies classes code.ops (l ∷ ls) (items_of b (method_end result ++ j ∷ rest)) at

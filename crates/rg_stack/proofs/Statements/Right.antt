@@ -50,13 +50,13 @@ word_value int = refl
 word_value bool = refl
 word_value (ref cap x) = refl
 
-words_values : (ms : List Member) → map value_of_word (opening_words ms) ≡ map (λ (f : Field). opening_value f.ty) (filter_map field_member ms)
+pub words_values : (ms : List Member) → map value_of_word (opening_words ms) ≡ map (λ (f : Field). opening_value f.ty) (filter_map field_member ms)
 words_values [] = refl
 words_values (field f ∷ ms) = ap (λ v. v ∷ map value_of_word (opening_words ms)) (word_value f.ty)
     ∙ ap (λ l. opening_value f.ty ∷ l) (words_values ms)
 words_values (method m ∷ ms) = words_values ms
 
-words_at : (classes : List Class) (n : ℕ) (k : Class) → slice_get classes n ≡ Some k
+pub words_at : (classes : List Class) (n : ℕ) (k : Class) → slice_get classes n ≡ Some k
     → slice_get (map (λ (c : Class). opening_of c.element c.members) classes) n ≡ Some (opening_of k.element k.members)
 words_at [] n k h = absurd (true≢false (sym (ap (λ (o : Option Class). elim o [ Some x ↦ true | None ↦ false ]) h)))
 words_at (c ∷ cs) zero k h = ap (option_map (λ (c : Class). opening_of c.element c.members)) h
@@ -233,7 +233,7 @@ plain_word int ws = refl
 plain_word bool ws = refl
 plain_word (ref cap x) ws = refl
 
-plain_words : (ms : List Member) → leads_nowhere (opening_words ms) ≡ true
+pub plain_words : (ms : List Member) → leads_nowhere (opening_words ms) ≡ true
 plain_words [] = refl
 plain_words (field f ∷ ms) = plain_word f.ty (opening_words ms) ∙ plain_words ms
 plain_words (method m ∷ ms) = plain_words ms

@@ -1,0 +1,1 @@
+-- Lemmas on contents at rest (docs/architecture.md, "Schedules").

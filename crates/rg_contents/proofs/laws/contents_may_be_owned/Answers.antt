@@ -1,0 +1,4 @@
+use Rattle.rg_contents.proofs.laws.contents_may_be_owned.Goals as goal
+
+pub returns : goal.returns
+returns c = ?

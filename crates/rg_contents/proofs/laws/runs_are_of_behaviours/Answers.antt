@@ -1,0 +1,4 @@
+use Rattle.rg_contents.proofs.laws.runs_are_of_behaviours.Goals as goal
+
+pub returns : goal.returns
+returns c = ?

@@ -1,0 +1,3 @@
+-- What cowns have at rest (docs/architecture.md, "Schedules").
+pub mod Rest
+pub mod Laws

@@ -1,0 +1,3 @@
+-- The object of a behaviour (docs/architecture.md, "How a behaviour begins").
+pub mod First
+pub mod Laws
