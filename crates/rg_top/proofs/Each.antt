@@ -27,6 +27,9 @@ use Rattle.rg_commands.specs.Expected.{Meaning, too_long, faulty, spelt, MeansMo
 use Rattle.rg_commands.specs.CutOff.{Runs, Untouched, CutOffAt, CutAtInput}
 use Rattle.rg_commands.specs.Asked.{Unasked, RunAsks, AsksOver, input_for}
 use Rattle.rg_commands.proofs.Meaning.{no-program}
+use Rattle.rg_words.specs.declared.status.Status.TheVariants as status
+use Rattle.rg_words.specs.Statuses.{is_answer, is_cut_off}
+use Rattle.rg_top.proofs.Answer.{Answered, answer-answered, answer-cut, answer-input}
 use Rattle.rg_top.specs.Headline.{ForSource, IfAccepted, RunStands, Leaves, Answers}
 use Rattle.rg_top.specs.Each.{StandsForEach, AsksForEach, AsksSo}
 use Rattle.rg_top.specs.Laws.{EachRuns}
@@ -98,7 +101,7 @@ each-answer law (bulk size) source input s old new m still a = tt
 each-answer law (exec file n every report) source input s old new m still a =
     λ u runs. left-each law file n every report source input a.meaning m still a.means a.leaves u runs
 
-pub answered-each : EachRuns → (told : Option Told) (left : Option (List ℕ)) (words : List (List ℕ)) (b : Bool) (s : Status)
+answered-each : EachRuns → (told : Option Told) (left : Option (List ℕ)) (words : List (List ℕ)) (b : Bool) (s : Status)
     (old new : Option (List ℕ)) (m : Kept) (still : Type 0) →
     OnTrue b (ForSource told left words (λ c source input. Answers c source input s old new m still)) →
     OnTrue b (ForSource told left words (λ c source input.
@@ -123,7 +126,7 @@ each-cut law (bulk size) source input m old new still h = tt
 each-cut law (exec file n every report) source input m old new still h =
     stands-each law (exec file n every report) source input m.steps m h.0 h.1 h.2.stands
 
-pub cut-each : EachRuns → (told : Option Told) (left : Option (List ℕ)) (words : List (List ℕ)) (b : Bool) (m : Kept) (old new : Option (List ℕ))
+cut-each : EachRuns → (told : Option Told) (left : Option (List ℕ)) (words : List (List ℕ)) (b : Bool) (m : Kept) (old new : Option (List ℕ))
     (still : Type 0) →
     OnTrue b (Untouched m old new still ⊎ ForSource told left words (λ c source input. CutOffAt c source input m old new still)) →
     OnTrue b (Untouched m old new still ⊎ ForSource told left words (λ c source input.
@@ -148,7 +151,7 @@ each-input law (bulk size) source input m old new h = absurd h
 each-input law (exec file n every report) source input m old new h =
     stands-each law (exec file n every report) source input m.steps m h.0 h.1 h.2
 
-pub input-each : EachRuns → (told : Option Told) (left : Option (List ℕ)) (words : List (List ℕ)) (m : Kept) (old new : Option (List ℕ)) →
+input-each : EachRuns → (told : Option Told) (left : Option (List ℕ)) (words : List (List ℕ)) (m : Kept) (old new : Option (List ℕ)) →
     ForSource told left words (λ c source input. CutAtInput c source input m old new) →
     ForSource told left words (λ c source input. CutAtInput c source input m old new × StandsForEach c source input m.steps m)
 input-each law told left words m old new h =
@@ -184,3 +187,17 @@ asked-each law told left words m d e t u (inr h) =
     let Q : Command → (source input : List ℕ) → Type 0 = λ c source input.
     RunAsks (origin_of c) source (input_for (origin_of c) input) m d e t u × AsksForEach c source input m d e t u in
     inr (for-source-map told left words P Q (λ c source input a. (a, each-asks law c source input m d e t u a)) h)
+
+module _ {told : Option Told} {left : Option (List ℕ)} {words : List (List ℕ)} {given answer : Status} {old new : Option (List ℕ)} {m : Kept}
+    {still : Type 0} (law : EachRuns) (a : Answered told left words given answer old new m still) where
+  pub each-answered : OnTrue (is_answer answer) (ForSource told left words (λ c source input.
+      Answers c source input answer old new m still × StandsForEach c source input (steps_of c) m))
+  each-answered = answered-each law told left words (is_answer answer) answer old new m still (answer-answered a)
+
+  pub each-cut_off : OnTrue (is_cut_off answer) (Untouched m old new still ⊎ ForSource told left words (λ c source input.
+      CutOffAt c source input m old new still × StandsForEach c source input m.steps m))
+  each-cut_off = cut-each law told left words (is_cut_off answer) m old new still (answer-cut a)
+
+  pub each-cut_at_input : answer ≡ status.InputFault → ForSource told left words (λ c source input.
+      CutAtInput c source input m old new × StandsForEach c source input m.steps m)
+  each-cut_at_input e = input-each law told left words m old new (answer-input a e)
