@@ -28,7 +28,7 @@ use Rattle.rg_commands.specs.Expected.{line_behind, run_answer, unless_fault, Ex
 use Rattle.rg_commands.specs.CutOff.{ForInput, Untouched, StandsAfter, AsksAfter, CutOffAt, CutAtInput}
 use Rattle.rg_top.specs.Headline.{IfAccepted, RunStands, Answers}
 use Rattle.rg_commands.specs.Settled.{RanWhole, RanBeside, RanGenerated, EndsWell, StopsRun, IsFaulted, CutOff, Settles}
-use Rattle.rg_commands.proofs.Settled.{no_lie, untouched-text, bulk-stands}
+use Rattle.rg_commands.proofs.Settled.{untouched-text, bulk-stands}
 
 -- the source of an input has some bytes
 pub for-input : (left : Option (List ℕ)) (P : List ℕ → Type 0) → ((input : List ℕ) → P input) → ForInput left P
@@ -331,6 +331,9 @@ cut-stops (code file) source left s old new m still r = absurd r
 cut-stops (pack file) source left s old new m still r = absurd r
 cut-stops (bulk size) source left s old new m still r = cut-generated size source s old new m [] still r
 cut-stops (exec file n every report) source left s old new m still r = cut-exec file n every report source left s old new m still r
+
+no_lie : true ≡ false → ⊥
+no_lie e = cc
 
 -- one of the steps asks
 asked : (t : Tree) (input : List ℕ) (n k : ℕ) (old new : Option (List ℕ)) (still : Type 0) → AsksAfter t input n k old new →
