@@ -1,6 +1,5 @@
 -- Why the step of the first thing to do may collect is the same by the classes of either of two programs by which the same statements make objects.
-use Rattle.std.proofs.Common.{◌≡◌, refl, ap, ℕ, List, [], ◌∷◌, Option}
-use Rattle.rg_base.specs.declared.event.Cause.{Cause}
+use Rattle.std.proofs.Common.{◌≡◌, refl, ap, List, [], ◌∷◌}
 use Rattle.rg_tree.specs.Tree.{stmt, StmtKind, declare, assign, assign_element, call, swap, branch, while, enter, print, collect, return, Class}
 use Rattle.rg_rules.specs.Items.{Item, Do, EndAt, LeaveAt, LeaveGiving, Back}
 use Rattle.rg_rules.specs.Outside.Asks.{item_makes}

@@ -1,8 +1,8 @@
 -- The same objects are held by the classes of either of two programs that are the same but for the lines that no mark has.
-use Rattle.std.proofs.Common.{◌≡◌, sym, ap, ◌∙◌, subst, ℕ, ◌++◌, Bool as Truth, true, List, [], map, length}
+use Rattle.std.proofs.Common.{◌≡◌, sym, ap, ◌∙◌, subst, ℕ, ◌++◌, true, List, [], map, length}
 use Rattle.rg_base.specs.declared.object.Label.{Label}
 use Rattle.rg_base.specs.declared.object.Label.TheVariants.{Region, Temp, Frozen}
-use Rattle.rg_tree.specs.Tree.{Class, Tree}
+use Rattle.rg_tree.specs.Tree.{Class}
 use Rattle.rg_rules.specs.State.{Window, State}
 use Rattle.rg_rules.specs.Regions.{joined_with, among, beneath}
 use Rattle.rg_rules.specs.Owners.{led_from_frames, is_temp_of, live}

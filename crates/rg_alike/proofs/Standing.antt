@@ -1,18 +1,17 @@
 -- A machine that shows a run of a program shows that of each program which is the same but for the lines that no mark has.
 use Rattle.std.proofs.Common.{◌≡◌, sym, ap, ◌∙◌, subst, ℕ, ◌+◌, ◌≤◌, List, length, arith}
 use Rattle.rg_base.specs.declared.event.Event.{Event}
-use Rattle.rg_tree.specs.Tree.{StmtKind, Class, Tree}
+use Rattle.rg_tree.specs.Tree.{Class, Tree}
 use Rattle.rg_tree.specs.Rows.Tables.{Tables}
 use Rattle.rg_tree.specs.Rows.RowTrees.{program_of}
 use Rattle.rg_rules.specs.Acceptance.{Accepted}
-use Rattle.rg_rules.specs.Items.{Item}
 use Rattle.rg_rules.specs.State.{State, active}
 use Rattle.rg_rules.specs.Reach.{plain_reach}
 use Rattle.rg_rules.specs.Runs.{Ran, plain}
 use Rattle.rg_rules.specs.Outside.Asks.{item_makes}
 use Rattle.rg_code.specs.Code.{Code}
-use Rattle.rg_code.specs.Lowering.{Scope, scope_behind, kind_code, Lowers}
-use Rattle.rg_lines.specs.Unlined.{classes_unlined, unlined, SameButLines}
+use Rattle.rg_code.specs.Lowering.{scope_behind, kind_code}
+use Rattle.rg_lines.specs.Unlined.{classes_unlined, SameButLines}
 use Rattle.rg_lines.proofs.Plain.{same-runs}
 use Rattle.rg_lines.proofs.Asks.{item_makes-unlined}
 use Rattle.rg_marks.proofs.Bodies.{scope_behind-unlined, kind_code-unlined, same-code}
@@ -23,7 +22,7 @@ use Rattle.rg_held.specs.Shown.{ShowsHeld}
 use Rattle.rg_machine.specs.Parts.{machine_in}
 use Rattle.rg_run.specs.Collected.{IsManaged, Told, Tells}
 use Rattle.rg_run.specs.Machine.{Kept}
-use Rattle.rg_run.specs.Sound.{IsSound, HoldsOf, Stands}
+use Rattle.rg_run.specs.Sound.{HoldsOf, Stands}
 use Rattle.rg_run.proofs.Sound.{run-is-sound}
 use Rattle.rg_sound.specs.Held.{NoneStale, LiveFit}
 use Rattle.rg_alike.specs.Standing.{ShowsState, RunStands}
