@@ -27,9 +27,9 @@ next : (m n : ℕ) → m ≡ n → 1 + m ≡ suc n
 next m n e = omega (arith, e)
 
 -- a number of such a list is met there again
-record At (b n x place : ℕ) (met : Truth) : Type 0 where
+record At (b n x k : ℕ) (met : Truth) : Type 0 where
   any : list_any (nat_eq x) (range_with_len b n) ≡ met
-  place : position_or_len (nat_eq x) (range_with_len b n) ≡ place
+  place : position_or_len (nat_eq x) (range_with_len b n) ≡ k
 
 stands : (b n a x : ℕ) → x ≡ b + a → a < n → At b n x a true
 stands b zero a x e l = absurd (omega (arith, l))

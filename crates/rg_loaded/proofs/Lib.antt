@@ -3,3 +3,4 @@ mod Following
 mod ReadBack
 mod Managed
 mod Shown
+mod Examples

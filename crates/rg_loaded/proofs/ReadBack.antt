@@ -1,7 +1,7 @@
 -- A sound list that is read object by object is that list (docs/architecture.md, "Cargo").
 use Rattle.std.proofs.Common.{◌≡◌, ℕ, zero, suc, ◌+◌, ◌<◌, ◌≤◌, List, [], ◌∷◌, ◌++◌, length, Option, Some, None, slice_get, refl, sym, ap, ◌∙◌}
-use Rattle.std.proofs.Common.{subst, arith}
-use Rattle.std.specs.Prelude.{nat_eq}
+use Rattle.std.proofs.Common.{Bool as Truth, true, false, if◌then◌else◌, option_and_then, inl, inr, arith}
+use Rattle.std.specs.Prelude.{nat_eq, nat_lt}
 use Rattle.std.specs.List.{range_with_len}
 use Rattle.std.proofs.lemmas.List.{append-nil, append_assoc, length_push}
 use Rattle.std.proofs.lemmas.List.FromFn.{length-range_with_len}
@@ -16,7 +16,7 @@ use Rattle.rg_cown.specs.declared.cargo.CargoCell.{CargoCell}
 use Rattle.rg_cown.specs.Cargo.{CargoList, SoundCargo, named, named_by, named_in, named_from, region_named, regions_named}
 use Rattle.rg_cown.specs.Contents.{Reading, all_met, new_fields, region_met, new_label, with_object, read_on, from_object, no_object}
 use Rattle.rg_cown.specs.Loads.{label_from}
-use Rattle.rg_cown.proofs.SoundParts.{between, turn, parts_of, count_is}
+use Rattle.rg_cown.proofs.SoundParts.{less_or_not, between, parts_of, count_is}
 use Rattle.rg_loaded.proofs.Following.{number-at, named-met}
 
 -- the object of a number, where regions are counted from a number on
@@ -100,6 +100,30 @@ unfolding read_on
 ended at zero s e = refl
 ended at (suc n) s e = rw (e, read_on) refl
 
+-- what the numbers of one object more have between
+record Turn (place n m : ℕ) (c : CargoCell) (cs : List CargoCell) : Type 0 where
+  named : place < n
+  given : ℕ
+  fields : named_in n c.fields ≡ Some given
+  rest : named_from (suc place) given cs ≡ Some m
+
+turn : (place n m : ℕ) (c : CargoCell) (rest : List CargoCell) → named_from place n (c ∷ rest) ≡ Some m → Turn place n m c rest
+turn place n m c rest e = elim (less_or_not place n) [
+  | inl t ↦
+      let b = between (named_in n c.fields) (λ x. named_from (suc place) x rest) m (sym (chosen true t.0) ∙ e) in
+      record { named = t.1; given = b.0; fields = b.1; rest = b.2 }
+  | inr t ↦ absurd (none-some (sym (chosen false t.0) ∙ e))
+]
+  where
+    behind : Option ℕ
+    behind = option_and_then (λ x. named_from (suc place) x rest) (named_in n c.fields)
+
+    chosen : (b : Truth) → nat_lt place n ≡ b → named_from place n (c ∷ rest) ≡ (if b then behind else None)
+    chosen b q = ap (λ z. if z then behind else None) q
+
+    none-some : None ≡ Some m → ⊥
+    none-some z = cc
+
 seam : (front : List CargoCell) (c : CargoCell) (rest : List CargoCell) → slice_get (front ++ c ∷ rest) (length front) ≡ Some c
 seam [] c rest = refl
 seam (x ∷ front) c rest = seam front c rest
@@ -124,22 +148,22 @@ read-left b all front [] place n r q most w few =
     ∙ ap (λ z. so-far b (length all) q z) (sym same)
 read-left b all front (c ∷ rest) place n r q zero w few = absurd (omega (arith, few))
 read-left b all front (c ∷ rest) place n r q (suc most) w few =
-    let t = turn place n c rest (length all) w.objects in
+    let t = turn place n (length all) c rest w.objects in
     let l = between (region_named r c.label) (λ z. regions_named z rest) q w.regions in
     let here : slice_get all place ≡ Some c =
         ap (λ z. slice_get z place) w.parts ∙ ap (slice_get (front ++ c ∷ rest)) w.read ∙ seam front c rest in
     let next : slice_get (range_with_len 0 n) (length front) ≡ Some place =
-        ap (slice_get (range_with_len 0 n)) (sym w.read) ∙ number-at 0 n place t.0 ∙ ap Some (plus place) in
+        ap (slice_get (range_with_len 0 n)) (sym w.read) ∙ number-at 0 n place t.named ∙ ap Some (plus place) in
     let pushed = length_push front c in
     let was = w.read in
     opened (listed b all) most (so-far b n r front) place next
     ∙ ap (λ z. read_on (listed b all) most (with_object (counted-from b z) (so-far b n r front))) here
     ∙ ap (read_on (listed b all) most)
-    (object-kept b n t.1.0 r l.0 front c (fields-kept c.fields n t.1.0 t.1.1) (label-kept b c.label r l.0 l.1))
-    ∙ read-left b all (front ++ c ∷ []) rest (suc place) t.1.0 l.0 q most (record {
+    (object-kept b n t.given r l.0 front c (fields-kept c.fields n t.given t.fields) (label-kept b c.label r l.0 l.1))
+    ∙ read-left b all (front ++ c ∷ []) rest (suc place) t.given l.0 q most (record {
       parts = w.parts ∙ sym (append_assoc front (c ∷ []) rest);
       read = omega (arith, pushed, was);
-      objects = t.1.2;
+      objects = t.rest;
       regions = l.2;
     }) (omega (arith, few))
   where
