@@ -8,7 +8,7 @@ use Rattle.rg_base.specs.declared.value.Word.TheVariants as word
 use Rattle.rg_cells.specs.Table.{Heap}
 use Rattle.rg_regions.specs.Table.{RegionTable}
 use Rattle.rg_cown.specs.Cargo.{CargoList, SoundCargo}
-use Rattle.rg_cown.specs.Contents.{cargo_at}
+use Rattle.rg_cown.specs.Contents.{cargo_at, read_on}
 use Rattle.rg_image.specs.ImageText.{image_text}
 
 -- an object with a number, alone in an arena
@@ -30,6 +30,7 @@ one-regions = record {
 }
 
 one-back : cargo_at one-heap one-regions 1 ≡ one
+unfolding read_on
 one-back = refl
 
 -- its image is the 52 bytes that it was read from
@@ -40,6 +41,7 @@ one-image : image_text (Some (cargo_at one-heap one-regions 1)) ≡ 82 ∷ 71 �
     ∷ 0 ∷ 0 ∷ 0 ∷ 0 ∷ 0 ∷ 0 ∷ 0 ∷ 0 ∷ 0
     ∷ 0 ∷ 0 ∷ 0 ∷ 0 ∷ 0 ∷ 0 ∷ 0 ∷ 1
     ∷ 1 ∷ 0 ∷ 0 ∷ 0 ∷ 0 ∷ 0 ∷ 0 ∷ 0 ∷ 2 ∷ []
+unfolding read_on
 one-image = refl
 
 -- two regions, a frozen object, and an object that leads to itself
@@ -75,4 +77,5 @@ rich-regions = record {
 }
 
 rich-back : cargo_at rich-heap rich-regions 3 ≡ rich
+unfolding read_on
 rich-back = refl

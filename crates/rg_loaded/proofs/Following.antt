@@ -78,7 +78,7 @@ named-met b n a m x e is = elim (less_or_not a n) [
   | inr t ↦ elim (eqb_tells a n) [
     | inl u ↦
         let f : named n a ≡ Some (suc n) = ap (λ z. if z then Some n else (if a == n then Some (suc n) else None)) t.0
-            ∙ ap (λ z. if z then Some (suc n) else None) u.0 in
+        ∙ ap (λ z. if z then Some (suc n) else None) u.0 in
         let same = same_Some (suc n) m (sym f ∙ e) in
         let q = u.1 in
         let r = lacks b n x (omega (arith, is, q)) in
@@ -88,7 +88,7 @@ named-met b n a m x e is = elim (less_or_not a n) [
         }
     | inr u ↦
         let f : named n a ≡ None = ap (λ z. if z then Some n else (if a == n then Some (suc n) else None)) t.0
-            ∙ ap (λ z. if z then Some (suc n) else None) u.0 in
+        ∙ ap (λ z. if z then Some (suc n) else None) u.0 in
         absurd (none-some (sym f ∙ e))
   ]
 ]

@@ -35,7 +35,7 @@ manager-found (Some q ∷ rs) (suc key) n r e is once = elim (eqb_tells q.number
 pub manager-of : (t : RegionTable) (key : ℕ) (r : Record) → ((k other n : ℕ) → HasNumber t k n → HasNumber t other n → k ≡ other)
     → record_at t key ≡ Some r → manager_in t.records r.number ≡ r.manager
 manager-of t key r once e = manager-found t.records key r.number r e refl (λ other q f of.
-  once other key r.number (ap (option_map (λ (z : Record). z.number)) f ∙ ap Some of) (ap (option_map (λ (z : Record). z.number)) e))
+    once other key r.number (ap (option_map (λ (z : Record). z.number)) f ∙ ap Some of) (ap (option_map (λ (z : Record). z.number)) e))
 
 -- managers of numbers that follow one another
 pub managers-from : (f : ℕ → Manager) (b : ℕ) (ms : List Manager) → ((i : ℕ) (m : Manager) → slice_get ms i ≡ Some m → f (b + i) ≡ m)

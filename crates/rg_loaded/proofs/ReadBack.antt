@@ -151,9 +151,9 @@ read-left b all front (c ∷ rest) place n r q (suc most) w few =
     let t = turn place n (length all) c rest w.objects in
     let l = between (region_named r c.label) (λ z. regions_named z rest) q w.regions in
     let here : slice_get all place ≡ Some c =
-        ap (λ z. slice_get z place) w.parts ∙ ap (slice_get (front ++ c ∷ rest)) w.read ∙ seam front c rest in
+    ap (λ z. slice_get z place) w.parts ∙ ap (slice_get (front ++ c ∷ rest)) w.read ∙ seam front c rest in
     let next : slice_get (range_with_len 0 n) (length front) ≡ Some place =
-        ap (slice_get (range_with_len 0 n)) (sym w.read) ∙ number-at 0 n place t.named ∙ ap Some (plus place) in
+    ap (slice_get (range_with_len 0 n)) (sym w.read) ∙ number-at 0 n place t.named ∙ ap Some (plus place) in
     let pushed = length_push front c in
     let was = w.read in
     opened (listed b all) most (so-far b n r front) place next

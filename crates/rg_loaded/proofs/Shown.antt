@@ -95,31 +95,31 @@ module _ (c : CargoList) (bridge : ℕ) (old new : Table) (t u : RegionTable) (s
   renamed : Renames (slot w.slots) (λ k. k < length c.cells) (listed t.next c.cells) (λ x. seen_in (body_at new.heap x))
   renamed = record {
     differ = λ x y p q e.
-    let a = slot-of x p in
-    let b = slot-of y q in
-    let same : a.0 ≡ b.0 = sym (slot-is x a.0 a.1) ∙ e ∙ slot-is y b.0 b.1 in
-    w.cells_are.once x y b.0 (a.1 ∙ ap Some same) b.1;
+        let a = slot-of x p in
+        let b = slot-of y q in
+        let same : a.0 ≡ b.0 = sym (slot-is x a.0 a.1) ∙ e ∙ slot-is y b.0 b.1 in
+        w.cells_are.once x y b.0 (a.1 ∙ ap Some same) b.1;
     same = λ x p.
-    let a = slot-of x p in
-    let o = there_is c.cells x p in
-    let shown : List Val → Seen = λ vs. record { class = o.0.class; fields = vs; label = label_from t.next o.0.label } in
-    ap (λ z. seen_in (body_at new.heap z)) (slot-is x a.0 a.1)
-    ∙ ap seen_in (w.cells_are.bodies x a.0 o.0 a.1 o.1)
-    ∙ ap shown (values-at w.slots o.0.fields)
-    ∙ sym (ap (λ z. other_object (slot w.slots) (counted-from t.next z)) o.1);
+        let a = slot-of x p in
+        let o = there_is c.cells x p in
+        let shown : List Val → Seen = λ vs. record { class = o.0.class; fields = vs; label = label_from t.next o.0.label } in
+        ap (λ z. seen_in (body_at new.heap z)) (slot-is x a.0 a.1)
+        ∙ ap seen_in (w.cells_are.bodies x a.0 o.0 a.1 o.1)
+        ∙ ap shown (values-at w.slots o.0.fields)
+        ∙ sym (ap (λ z. other_object (slot w.slots) (counted-from t.next z)) o.1);
     on = λ x k b p e.
-    let o = there_is c.cells x p in
-    let P : Option CargoCell → Type 0 = λ z. slice_get ((λ (y : Seen). y.fields) (counted-from t.next z)) k ≡ Some (Obj b) in
-    in_range c x k b s (record { cell = o.0; there = o.1; value = subst P o.1 e });
+        let o = there_is c.cells x p in
+        let P : Option CargoCell → Type 0 = λ z. slice_get ((λ (y : Seen). y.fields) (counted-from t.next z)) k ≡ Some (Obj b) in
+        in_range c x k b s (record { cell = o.0; there = o.1; value = subst P o.1 e });
   }
 
   managers-are : Grove new u → map (manager_in u.records) (range_with_len t.next (length c.managers)) ≡ c.managers
   managers-are g = managers-from (manager_in u.records) t.next c.managers (λ i m at.
-    let l = slice_get_within c.managers i m at in
-    let many = w.regions_are.many in
-    let key = there_is w.keys i (omega (arith, l, many)) in
-    let r = w.regions_are.records i key.0 m key.1 at in
-    ap (manager_in u.records) (sym r.2) ∙ manager-of u key.0 r.0 g.numbers r.1 ∙ r.3)
+      let l = slice_get_within c.managers i m at in
+      let many = w.regions_are.many in
+      let key = there_is w.keys i (omega (arith, l, many)) in
+      let r = w.regions_are.records i key.0 m key.1 at in
+      ap (manager_in u.records) (sym r.2) ∙ manager-of u key.0 r.0 g.numbers r.1 ∙ r.3)
 
   pub content-is : Grove new u → cargo_at new.heap u bridge ≡ c
   content-is g =
