@@ -1,6 +1,5 @@
 -- What loads leave, computed (docs/architecture.md, "Cargo" and "Images").
-use Rattle.std.proofs.Common.{◌≡◌, refl, pos, List, [], ◌∷◌, true, Some, None}
-use Rattle.std.specs.Prelude.{ℕ}
+use Rattle.std.proofs.Common.{◌≡◌, refl, pos, [], ◌∷◌, Some, None}
 use Rattle.rg_base.specs.declared.words.Manager.TheVariants.{Arena, Count, Trace}
 use Rattle.rg_base.specs.declared.object.Label.TheVariants.{Region, Frozen}
 use Rattle.rg_base.specs.declared.value.Val.TheVariants.{Nil, Int, Obj}

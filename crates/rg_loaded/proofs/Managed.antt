@@ -1,7 +1,7 @@
 -- The managers of regions that came, by their numbers (docs/architecture.md, "Cargo").
 use Rattle.std.proofs.Common.{◌≡◌, ℕ, zero, suc, ◌+◌, inl, inr, if◌then◌else◌, List, [], ◌∷◌, length, map, Option, Some, None, slice_get}
-use Rattle.std.proofs.Common.{option_map, refl, sym, ap, ◌∙◌, arith}
-use Rattle.std.specs.Prelude.{slice_index_or, ◌==◌}
+use Rattle.std.proofs.Common.{option_map, refl, ap, ◌∙◌, arith}
+use Rattle.std.specs.Prelude.{slice_index_or}
 use Rattle.std.specs.List.{range_with_len}
 use Rattle.std.proofs.lemmas.Bool.Decides.{eqb_tells}
 use Rattle.std.proofs.lemmas.Option.{same_Some}

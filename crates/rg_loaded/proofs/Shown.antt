@@ -1,5 +1,5 @@
 -- What is read of a closed region that was loaded is the cargo (docs/architecture.md, "Cargo").
-use Rattle.std.proofs.Common.{◌≡◌, ℕ, suc, ◌+◌, ◌<◌, ◌≤◌, List, [], ◌∷◌, length, map, Option, Some, None, slice_get, sum_by, cond, refl, sym, ap}
+use Rattle.std.proofs.Common.{◌≡◌, ℕ, ◌<◌, ◌≤◌, List, [], ◌∷◌, length, map, Option, Some, None, slice_get, sum_by, cond, refl, sym, ap}
 use Rattle.std.proofs.Common.{◌∙◌, subst, arith}
 use Rattle.std.specs.Prelude.{slice_index, is_some, count_by}
 use Rattle.std.specs.List.{range_with_len}
@@ -21,7 +21,7 @@ use Rattle.rg_cown.specs.Loads.{word_in, label_from, Loaded}
 use Rattle.rg_cown.proofs.GroveLoaded.{there_is}
 use Rattle.rg_cown.proofs.Renamed.{Renames, other_value, other_object, other_reading, reading_on}
 use Rattle.rg_cown.proofs.SoundParts.{in_range}
-use Rattle.rg_loaded.specs.Back.{WasLoaded, LoadedBack, ImageComesBack}
+use Rattle.rg_loaded.specs.Back.{LoadedBack, ImageComesBack}
 use Rattle.rg_image.specs.ImageText.{image_text}
 use Rattle.rg_loaded.proofs.Managed.{manager-of, managers-from}
 use Rattle.rg_loaded.proofs.ReadBack.{counted-from, listed, so-far, read-back}
