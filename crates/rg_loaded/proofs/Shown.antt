@@ -50,19 +50,19 @@ ones (x ∷ xs) = let n = sum_by-cons (λ (z : ℕ). 1) x xs in let l = ones xs 
 -- Words
 
 module _ (slots : List ℕ) where
-  abbrev pub slot : ℕ → ℕ
-  slot k = slice_index slots k
+  abbrev pub slot-at : ℕ → ℕ
+  slot-at k = slice_index slots k
 
-  value-at : (v : Val) → by_slot (word_in slots v) ≡ other_value slot v
+  value-at : (v : Val) → by_slot (word_in slots v) ≡ other_value slot-at v
   value-at Nil = refl
   value-at (Int i) = refl
   value-at (Bool b) = refl
   value-at (Obj a) = refl
 
-  values-at : (vs : List Val) → map by_slot (map (word_in slots) vs) ≡ map (other_value slot) vs
+  values-at : (vs : List Val) → map by_slot (map (word_in slots) vs) ≡ map (other_value slot-at) vs
   values-at [] = refl
   values-at (v ∷ vs) =
-      ap (λ z. z ∷ map by_slot (map (word_in slots) vs)) (value-at v) ∙ ap (λ zs. other_value slot v ∷ zs) (values-at vs)
+      ap (λ z. z ∷ map by_slot (map (word_in slots) vs)) (value-at v) ∙ ap (λ zs. other_value slot-at v ∷ zs) (values-at vs)
 
 -- What came
 
@@ -70,7 +70,7 @@ module _ (c : CargoList) (bridge : ℕ) (old new : Table) (t u : RegionTable) (s
   slot-of : (k : ℕ) → k < length c.cells → (x : ℕ) × (slice_get w.slots k ≡ Some x)
   slot-of k l = let m = w.cells_are.many in there_is w.slots k (omega (arith, l, m))
 
-  slot-is : (k x : ℕ) → slice_get w.slots k ≡ Some x → slot w.slots k ≡ x
+  slot-is : (k x : ℕ) → slice_get w.slots k ≡ Some x → slot-at w.slots k ≡ x
   slot-is k x e = get_or_from_slice_get w.slots k x 0 e
 
   body-held : (k x : ℕ) → slice_get w.slots k ≡ Some x → one (body_at new.heap x) ≡ 1
@@ -92,7 +92,7 @@ module _ (c : CargoList) (bridge : ℕ) (old new : Table) (t u : RegionTable) (s
       omega (arith, all, each, n, l, m)
 
   -- the cells are the objects of the list, which go by their slots
-  renamed : Renames (slot w.slots) (λ k. k < length c.cells) (listed t.next c.cells) (λ x. seen_in (body_at new.heap x))
+  renamed : Renames (slot-at w.slots) (λ k. k < length c.cells) (listed t.next c.cells) (λ x. seen_in (body_at new.heap x))
   renamed = record {
     differ = λ x y p q e.
         let a = slot-of x p in
@@ -106,7 +106,7 @@ module _ (c : CargoList) (bridge : ℕ) (old new : Table) (t u : RegionTable) (s
         ap (λ z. seen_in (body_at new.heap z)) (slot-is x a.0 a.1)
         ∙ ap seen_in (w.cells_are.bodies x a.0 o.0 a.1 o.1)
         ∙ ap shown (values-at w.slots o.0.fields)
-        ∙ sym (ap (λ z. other_object (slot w.slots) (counted-from t.next z)) o.1);
+        ∙ sym (ap (λ z. other_object (slot-at w.slots) (counted-from t.next z)) o.1);
     on = λ x k b p e.
         let o = there_is c.cells x p in
         let P : Option CargoCell → Type 0 = λ z. slice_get ((λ (y : Seen). y.fields) (counted-from t.next z)) k ≡ Some (Obj b) in
@@ -123,7 +123,7 @@ module _ (c : CargoList) (bridge : ℕ) (old new : Table) (t u : RegionTable) (s
 
   pub content-is : Grove new u → cargo_at new.heap u bridge ≡ c
   content-is g =
-      let f = slot w.slots in
+      let f = slot-at w.slots in
       let other : ℕ → Seen = λ x. seen_in (body_at new.heap x) in
       let most = high_of new.heap in
       let first : f 0 ≡ bridge = slot-is 0 bridge w.first in
