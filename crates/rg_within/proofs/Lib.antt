@@ -1,0 +1,5 @@
+-- Lemmas on what the grammar counts, and on the brackets of canonical text.
+mod Kept
+mod SpeltFew
+mod SpeltShallow
+mod Whole
