@@ -2,4 +2,10 @@
 mod Kept
 mod SpeltFew
 mod SpeltShallow
+mod Texts
+mod Tokens
+mod PartTexts
+mod Spent
+mod Pieces
+mod Reading
 mod Whole

@@ -163,6 +163,42 @@ module _ (n : ℕ) where
       (both n (front ++ 93 ∷ []) (codes " = ") place (bare 0 n (codes " = ") refl)) in
       (of (front ++ codes "] = ") upto & of (right_text r) hr & plain (codes ";") refl).stays
 
+  pub freeze-stays : (y : Name) → IsBare y → Stays n (codes "freeze " ++ y)
+  freeze-stays y h = (plain (codes "freeze ") refl & plain y h).stays
+
+  pub merge-stays : (y : Name) → IsBare y → Stays n (codes "merge " ++ y)
+  merge-stays y h = (plain (codes "merge ") refl & plain y h).stays
+
+  -- What stands in the lines of statements
+
+  pub let-stays : (x : Name) (t : Ty) (r : Right) → IsBare x → IsBareType t → Stays n (right_text r)
+      → Stays n ((((((codes "let " ++ x) ++ codes ": ") ++ ty_text t) ++ codes " = ") ++ right_text r) ++ codes ";")
+  let-stays x t r hx ht hr =
+      (plain (codes "let ") refl & plain x hx & plain (codes ": ") refl & of (ty_text t) (type-stays t ht) & plain (codes " = ") refl
+      & of (right_text r) hr & plain (codes ";") refl).stays
+
+  pub assign-stays : (q : Path) (r : Right) → IsBarePath q → Stays n (right_text r)
+      → Stays n (((path_text q ++ codes " = ") ++ right_text r) ++ codes ";")
+  assign-stays q r hq hr =
+      (of (path_text q) (path-stays q hq) & plain (codes " = ") refl & of (right_text r) hr & plain (codes ";") refl).stays
+
+  pub swap-stays : (y : Name) (q : Path) → IsBare y → IsBarePath q → Stays n ((((codes "swap " ++ y) ++ codes ", ") ++ path_text q) ++ codes ";")
+  swap-stays y q hy hq =
+      (plain (codes "swap ") refl & plain y hy & plain (codes ", ") refl & of (path_text q) (path-stays q hq) & plain (codes ";") refl).stays
+
+  pub enter-stays : (q : Path) (z : Name) → IsBarePath q → IsBare z → Stays n (((codes "enter " ++ path_text q) ++ codes " as ") ++ z)
+  enter-stays q z hq hz = (plain (codes "enter ") refl & of (path_text q) (path-stays q hq) & plain (codes " as ") refl & plain z hz).stays
+
+  -- a text behind a word, and in front of a semicolon
+  pub after-stays : (word s : List ℕ) → list_any is_bracket word ≡ false → Stays n s → Stays n (word ++ s)
+  after-stays word s h i = both n word s (bare 0 n word h) i
+
+  pub ended-stays : (s : List ℕ) → Stays n s → Stays n (s ++ codes ";")
+  ended-stays s h = both n s (codes ";") h (bare 0 n (codes ";") refl)
+
+  pub field-stays : (x : Name) (t : Ty) → IsBare x → IsBareType t → Stays n (((x ++ codes ": ") ++ ty_text t) ++ codes ";")
+  field-stays x t hx ht = (plain x hx & plain (codes ": ") refl & of (ty_text t) (type-stays t ht) & plain (codes ";") refl).stays
+
   -- the line of main
   pub main-stays : (m : Manager) → Stays n (codes "main " ++ manager_text m)
   main-stays m = (plain (codes "main ") refl & plain (manager_text m) (manager-bare m)).stays

@@ -259,13 +259,13 @@ size-fits {c} q x h =
     record { spent = x; small = tt; text = text; placed = text }
 
 -- an index, and an element
-pub index-fits : {a : Expr} {c d e : Counts} → opened c ≡ Ok d → Fits 0 d e a → IndexStays c.brackets a
-index-fits {a} h x = let o = opened-so h in record { room = o.room; text = within (expr_text a) o x.text }
+pub index-fits : {a : Expr} {d e : Counts} (c : Counts) → opened c ≡ Ok d → Fits 0 d e a → IndexStays c.brackets a
+index-fits {a} c h x = let o = opened-so h in record { room = o.room; text = within (expr_text a) o x.text }
 
 pub element-fits : {a : Expr} {b c d e : Counts} (q : Path) → Spent 0 b c → IsBarePath q → opened c ≡ Ok d → Fits 0 d e a
     → Fits 7 b (closed e) (element q a)
 element-fits {a} {b} {c} q s p h x =
-    let i = index-fits h x in
+    let i = index-fits c h x in
     let text = as-deep (expr_text (element q a)) s (index-stays c.brackets (path_text q) a i.room (path-stays c.brackets q p) i.text) in
     record { spent = behind s (shut h x.spent); small = x.small; text = text; placed = text }
 
