@@ -11,9 +11,9 @@ use Rattle.rg_base.specs.Text.{bool_text}
 use Rattle.rg_tree.specs.declared.rows.BinOp.{BinOp}
 use Rattle.rg_tree.specs.declared.rows.BinOp.TheVariants.{Or, And, Eq, Ne, Lt, Le, Gt, Ge, Add, Sub, Mul, Div, Rem}
 use Rattle.rg_tree.specs.Tree.{Name, Variable, Path, Ty, int, bool, ref, Expr, Right, Param, Method}
-use Rattle.rg_tree.specs.Canonical.{op_text, cap_text, manager_text, base_text, path_text, expr_text, ty_text, joined, arg_texts, size_text, right_text}
+use Rattle.rg_tree.specs.Canonical.{op_text, cap_text, manager_text, base_text, path_text, expr_text, ty_text, joined, size_text, right_text}
 use Rattle.rg_tree.specs.Canonical.{giving_text, param_texts, result_text, head_text, class_word}
-use Rattle.rg_within.proofs.Texts.{Stays, both, nothing, less, is_bracket, bare, around}
+use Rattle.rg_within.proofs.Texts.{Stays, both, nothing, is_bracket, bare, around}
 use Rattle.rg_within.proofs.Tokens.{IsBare}
 
 -- Names

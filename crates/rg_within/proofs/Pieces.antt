@@ -9,8 +9,8 @@ use Rattle.rg_base.specs.declared.words.Manager.{Manager}
 use Rattle.rg_base.specs.declared.token.Kind.{Kind}
 use Rattle.rg_base.specs.declared.token.Kind.TheVariants as k
 use Rattle.rg_tree.specs.declared.counts.Counts.{Counts}
-use Rattle.rg_tree.specs.Tree.{Name, Variable, Path, Ty, int, bool, Expr, Call, Right, value, read, more, result_of, Param, Member, field, method, Method}
-use Rattle.rg_tree.specs.Tree.{Stmt, stmt, StmtKind, declare, assign_element, call, swap, branch, while, enter, print, collect, return, Else, otherwise}
+use Rattle.rg_tree.specs.Tree.{Name, Variable, Path, Ty, int, bool, Expr, Call, Right, value, read, more, Member, field, method, Method}
+use Rattle.rg_tree.specs.Tree.{Stmt, stmt, StmtKind, declare, call, swap, branch, while, enter, print, collect, return, Else, otherwise}
 use Rattle.rg_tree.specs.Tree.{Block, then as next, Class, Tree}
 use Rattle.rg_tree.specs.Canonical.{expr_text, joined, arg_texts, call_text, right_text, giving_text, line_of, kind_text, else_text, block_text, head_text}
 use Rattle.rg_tree.specs.Canonical.{member_text, class_word, rest_text, class_text, path_text}
@@ -24,8 +24,8 @@ use Rattle.rg_limits.specs.Numbers.{HasSmall, HasOwnSmall}
 use Rattle.rg_within.proofs.Texts.{Goes, Stays, goes, both, nothing, less, bare, opening, line-stays, opening-line, closing-line, last-line, between, framed}
 use Rattle.rg_within.proofs.Tokens.{IsBare, FineKind}
 use Rattle.rg_within.proofs.PartTexts.{IsBarePath, IsBareType, IsBareParam, IndexStays, call-stays, giving-stays, element-stays, elements-stay, let-stays}
-use Rattle.rg_within.proofs.PartTexts.{assign-stays, swap-stays, enter-stays, after-stays, ended-stays, field-stays, head-stays, main-stays, class-stays}
-use Rattle.rg_within.proofs.Spent.{Spent, still, behind, before, as-many, method-spent, Opened, opened-so, shut, as-deep, within, Fits, index-fits}
+use Rattle.rg_within.proofs.PartTexts.{assign-stays, swap-stays, enter-stays, after-stays, ended-stays, field-stays, head-stays, class-stays}
+use Rattle.rg_within.proofs.Spent.{Spent, still, behind, as-many, method-spent, opened-so, shut, as-deep, within, Fits, index-fits}
 
 -- Names and words by their tokens
 

@@ -1,5 +1,5 @@
 -- What is read fits: signs are counted, numbers are small, and no more brackets are open in its text than were in the source.
-use Rattle.std.proofs.Common.{◌≡◌, refl, ℕ, ◌+◌, ◌≤◌, true, false, List, [], ◌∷◌, IfSome, arith}
+use Rattle.std.proofs.Common.{◌≡◌, refl, ℕ, ◌+◌, ◌≤◌, true, false, List, IfSome, arith}
 use Rattle.std.specs.List.{AllByRecursion}
 use Rattle.rg_base.specs.declared.limits.TheConstants.{BRACKETS}
 use Rattle.rg_base.specs.declared.token.Token.{Token}

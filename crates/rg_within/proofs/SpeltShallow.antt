@@ -1,5 +1,5 @@
 -- The blocks of a program that tokens spell are no deeper than brackets may be.
-use Rattle.std.proofs.Common.{◌≡◌, refl, ap, ◌∙◌, ℕ, suc, ◌+◌, ◌≤◌, max, ◌-◌, List, Option, Some, None, arith}
+use Rattle.std.proofs.Common.{◌≡◌, refl, ap, ℕ, suc, ◌+◌, ◌≤◌, max, ◌-◌, List, Option, Some, None, arith}
 use Rattle.std.proofs.Math.Nat.{max-le}
 use Rattle.rg_base.specs.declared.token.Token.{Token}
 use Rattle.rg_base.specs.declared.limits.TheConstants.{BRACKETS}

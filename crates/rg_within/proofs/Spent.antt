@@ -1,5 +1,5 @@
 -- How many signs were counted, and what an expression spends of the limits.
-use Rattle.std.proofs.Common.{◌≡◌, refl, sym, ap, subst, ℕ, suc, ◌+◌, ◌-◌, ◌<◌, ◌≤◌, nat_lt, Bool as Truth, true, false, List, [], ◌∷◌, ◌++◌, codes, Some}
+use Rattle.std.proofs.Common.{◌≡◌, refl, sym, ap, subst, ℕ, ◌+◌, ◌-◌, ◌≤◌, nat_lt, Bool as Truth, true, false, List, ◌++◌, codes, Some}
 use Rattle.std.proofs.Common.{Ok, arith}
 use Rattle.std.proofs.lemmas.Bool.Decides.{nat_tests}
 use Rattle.rg_base.specs.declared.limits.TheConstants.{BRACKETS, STATEMENT_SIGNS}
@@ -30,14 +30,7 @@ pub record Spent (n : ℕ) (c d : Counts) : Type 0 where
 pub still : {c : Counts} → Spent 0 c c
 still = record { signs = omega arith; few = λ l. l; brackets = refl }
 
--- one behind another
-pub on : {c d e : Counts} {m n k : ℕ} → Spent m c d → Spent n d e → m + n ≡ k → Spent k c e
-on a b h = record {
-  signs = omega (arith, a.signs, b.signs, h);
-  few = λ l. b.few (a.few l);
-  brackets = omega (arith, a.brackets, b.brackets);
-}
-
+-- one behind another, of which one counts no signs
 pub behind : {c d e : Counts} {n : ℕ} → Spent 0 c d → Spent n d e → Spent n c e
 behind a b = record {
   signs = omega (arith, a.signs, b.signs);

@@ -1,5 +1,5 @@
 -- Texts that open no more brackets than may be open together, where so many are open in front of them.
-use Rattle.std.proofs.Common.{◌≡◌, refl, sym, ap, ◌∙◌, subst, ℕ, zero, suc, ◌+◌, ◌-◌, ◌*◌, ◌==◌, ◌<◌, ◌≤◌, ◌||◌, Bool as Truth, true, false}
+use Rattle.std.proofs.Common.{◌≡◌, refl, sym, ap, subst, ℕ, zero, suc, ◌+◌, ◌-◌, ◌*◌, ◌==◌, ◌<◌, ◌≤◌, ◌||◌, Bool as Truth, true, false}
 use Rattle.std.proofs.Common.{List, [], ◌∷◌, ◌++◌, replicate, append_assoc, codes, decimal, ℤ, pos, negsuc, unsigned_abs, arith}
 use Rattle.std.specs.List.{list_any}
 use Rattle.std.specs.Str.Parse.{AllDigits}

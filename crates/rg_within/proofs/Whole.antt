@@ -1,5 +1,5 @@
 -- What a source spells passes no limit.
-use Rattle.std.proofs.Common.{◌≡◌, sym, ap, subst, ℕ, ◌+◌, ◌≤◌, List, [], ◌∷◌, ◌++◌, codes, flat_map, append-nil, Ok, arith}
+use Rattle.std.proofs.Common.{◌≡◌, subst, ℕ, ◌+◌, ◌≤◌, List, [], ◌++◌, codes, flat_map, append-nil, Ok, arith}
 use Rattle.rg_base.specs.declared.limits.TheConstants.{BRACKETS}
 use Rattle.rg_base.specs.declared.token.Token.{Token}
 use Rattle.rg_base.specs.Tokens.{cut}
@@ -12,7 +12,7 @@ use Rattle.rg_limits.specs.Brackets.{most_open_from, most_open}
 use Rattle.rg_limits.specs.Limits.{IsWithinLimits}
 use Rattle.rg_within.proofs.SpeltFew.{spelt-few}
 use Rattle.rg_within.proofs.SpeltShallow.{spelt-shallow}
-use Rattle.rg_within.proofs.Texts.{Stays, both, framed, opening-line, last-line, goes}
+use Rattle.rg_within.proofs.Texts.{Stays, framed, opening-line, last-line, goes}
 use Rattle.rg_within.proofs.Tokens.{cut-fine}
 use Rattle.rg_within.proofs.PartTexts.{main-stays}
 use Rattle.rg_within.proofs.Pieces.{ProgramFits}
