@@ -1,5 +1,5 @@
 -- How many signs were counted, and what an expression spends of the limits.
-use Rattle.std.proofs.Common.{◌≡◌, refl, sym, ap, subst, ℕ, ◌+◌, ◌-◌, ◌≤◌, nat_lt, Bool as Truth, true, false, List, ◌++◌, codes, Some}
+use Rattle.std.proofs.Common.{◌≡◌, refl, sym, ap, subst, ℕ, ◌+◌, ◌≤◌, nat_lt, Bool as Truth, true, false, List, ◌++◌, codes, Some}
 use Rattle.std.proofs.Common.{Ok, arith}
 use Rattle.std.proofs.lemmas.Bool.Decides.{nat_tests}
 use Rattle.rg_base.specs.declared.limits.TheConstants.{BRACKETS, STATEMENT_SIGNS}

@@ -1,5 +1,5 @@
 -- What a source spells passes no limit.
-use Rattle.std.proofs.Common.{◌≡◌, subst, ℕ, ◌+◌, ◌≤◌, List, [], ◌++◌, codes, flat_map, append-nil, Ok, arith}
+use Rattle.std.proofs.Common.{◌≡◌, subst, ℕ, ◌≤◌, List, [], ◌++◌, codes, flat_map, append-nil, Ok, arith}
 use Rattle.rg_base.specs.declared.limits.TheConstants.{BRACKETS}
 use Rattle.rg_base.specs.declared.token.Token.{Token}
 use Rattle.rg_base.specs.Tokens.{cut}
