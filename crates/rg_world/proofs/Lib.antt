@@ -1,0 +1,4 @@
+-- Lemmas on worlds over machines.
+mod Empty
+mod Lists
+mod Events

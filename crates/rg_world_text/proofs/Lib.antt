@@ -1,0 +1,1 @@
+-- Lemmas on the text of a world.
