@@ -2,3 +2,8 @@
 mod Empty
 mod Lists
 mod Events
+mod Shown
+mod Behind
+mod Stepped
+mod Returned
+mod Opened

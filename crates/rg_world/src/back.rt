@@ -50,6 +50,9 @@ pub(crate) fn contents_back(
                         return Err(Memory);
                     };
                 }
+                if field == u32::MAX {
+                    return Err(Memory);
+                }
                 field += 1;
             }
             MemberRow::Method { .. } => {}

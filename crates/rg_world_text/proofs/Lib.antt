@@ -1,1 +1,2 @@
 -- Lemmas on the text of a world.
+mod Lines

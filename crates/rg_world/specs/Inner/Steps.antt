@@ -58,6 +58,11 @@ abbrev pub Leaves : List Field → Ran → Option (List Slot) → Type 0
 Leaves fields r None = r.ending ≡ Running
 Leaves fields r (Some back) = IsLeft fields r back
 
+-- what cowns have behind a step that leaves this
+abbrev pub contents_with : (cowns : List ℕ) → Option (List Slot) → List Content → List Content
+contents_with ns None cs = cs
+contents_with ns (Some back) cs = put ns (map content_in back) cs
+
 -- whether a behaviour that stands so has ended
 abbrev pub is_ended : Standing → Truth
 is_ended stands.Waiting = false
