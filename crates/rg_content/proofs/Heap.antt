@@ -1,8 +1,7 @@
 -- What is read of a heap is what is read of a store in which each held cell stands at its serial.
-use Rattle.std.proofs.Common.{◌≡◌, ◌<◌, ◌⊎◌, inl, inr, ℕ, zero, suc, true, false, List, [], ◌∷◌, map, length, Option, Some, None, option_map, option_and_then}
+use Rattle.std.proofs.Common.{◌≡◌, inl, inr, ℕ, zero, suc, false, List, [], ◌∷◌, map, length, Option, Some, None, option_map, option_and_then}
 use Rattle.std.proofs.Common.{slice_get, slice_index_or, refl, sym, ap, ◌∙◌, subst, arith}
 use Rattle.std.specs.Prelude.{nat_eq}
-use Rattle.std.specs.List.{list_any}
 use Rattle.std.proofs.lemmas.Bool.{false≢true}
 use Rattle.std.proofs.lemmas.Bool.Decides.{eqb_tells}
 use Rattle.std.proofs.lemmas.Option.{same_Some, slice_get_within, get_or_from_slice_get}
@@ -16,15 +15,15 @@ use Rattle.rg_base.specs.declared.value.Val.TheVariants.{Obj}
 use Rattle.rg_base.specs.declared.value.Word.{Word}
 use Rattle.rg_base.specs.declared.value.Word.TheVariants as word
 use Rattle.rg_cells.specs.declared.cell.Body.{Body}
-use Rattle.rg_cells.specs.Table.{Heap, Table, body_at, field_at, label_at, Serials, IsHeld, high_of}
+use Rattle.rg_cells.specs.Table.{Table, body_at, field_at, label_at, Serials, IsHeld, high_of}
 use Rattle.rg_regions.specs.Table.{RegionTable, IsBridge}
 use Rattle.rg_regions.specs.Reach.{LiesIn}
 use Rattle.rg_regions.specs.Grove.{Grove}
 use Rattle.rg_regions.proofs.Callers.Told.{labelled_held}
 use Rattle.rg_cown.specs.Cargo.{named_from}
-use Rattle.rg_cown.specs.Contents.{Reading, read_on, from_object, by_slot, seen_in, manager_in, no_object, cargo_at, cargo_of}
+use Rattle.rg_cown.specs.Contents.{read_on, from_object, by_slot, seen_in, manager_in, no_object, cargo_at, cargo_of}
 use Rattle.rg_cown.specs.Inner.Reads.{Lasts}
-use Rattle.rg_cown.proofs.Numbered.{IsNumbered, Spreads, or_cases, read_numbered}
+use Rattle.rg_cown.proofs.Numbered.{Spreads, or_cases, read_numbered}
 use Rattle.rg_cown.proofs.Renamed.{Renames, other_value, other_object}
 use Rattle.rg_cown.proofs.SoundParts.{count_is, parts_of}
 use Rattle.rg_cown.proofs.SoundRead.{cargo_sound}

@@ -3,3 +3,4 @@ mod SameCargo
 mod Heap
 mod Field
 mod Told
+mod Examples

@@ -1,9 +1,8 @@
 -- What is read off the machine of an `iso` field is what the state has that it shows.
-use Rattle.std.proofs.Common.{◌≡◌, ◌≢◌, ◌<◌, ◌≤◌, ◌-◌, ◌^◌, inl, inr, ℕ, List, [], ◌∷◌, map, Option, Some, None, option_map, option_and_then}
+use Rattle.std.proofs.Common.{◌≡◌, ◌≢◌, ◌<◌, ◌≤◌, ◌-◌, ◌^◌, inl, inr, ℕ, List, [], ◌∷◌, Option, Some, None, option_map, option_and_then}
 use Rattle.std.proofs.Common.{Result, Ok, slice_get, slice_index_or, refl, sym, ap, ◌∙◌, subst, if◌then◌else◌, ◌==◌, arith}
 use Rattle.std.proofs.lemmas.Option.{same_Some, slice_get_within, get_or_from_slice_get}
-use Rattle.rg_base.specs.declared.object.Label.{Label}
-use Rattle.rg_base.specs.declared.object.Label.TheVariants.{Region, Frozen}
+use Rattle.rg_base.specs.declared.object.Label.TheVariants.{Region}
 use Rattle.rg_base.specs.declared.object.Seen.{Seen}
 use Rattle.rg_base.specs.declared.outcome.Trap.{Trap}
 use Rattle.rg_base.specs.declared.words.Manager.{Manager}
@@ -19,7 +18,7 @@ use Rattle.rg_sound.specs.Fit.{Fit}
 use Rattle.rg_sound.specs.Values.{IsRegion, Leads, MeetsRef}
 use Rattle.rg_code.specs.Code.{Code}
 use Rattle.rg_cells.specs.declared.cell.Body.{Body}
-use Rattle.rg_cells.specs.Table.{Heap, body_at, field_at, label_at, width, Serials, HasSerial}
+use Rattle.rg_cells.specs.Table.{Heap, body_at, field_at, width, Serials, HasSerial}
 use Rattle.rg_regions.specs.Table.{Record, RegionTable, IsBridge}
 use Rattle.rg_regions.specs.Reach.{LiesIn}
 use Rattle.rg_regions.specs.Grove.{Grove}

@@ -2,3 +2,5 @@
 mod Managers
 mod Shown
 mod Lasts
+mod Along
+mod Examples

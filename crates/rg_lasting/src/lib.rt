@@ -6,4 +6,4 @@
 
 mod laws;
 
-pub use laws::first_lasts;
+pub use laws::{first_lasts, first_lasts_along};

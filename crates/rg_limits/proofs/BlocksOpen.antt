@@ -1,17 +1,19 @@
 -- Each block of a program opens a brace in its text.
-use Rattle.std.proofs.Common.{◌≡◌, refl, sym, ap, ◌∙◌, subst, ℕ, zero, suc, ◌+◌, ◌≤◌, max, Bool as Truth, true, false}
+use Rattle.std.proofs.Common.{◌≡◌, refl, sym, ap, ◌∙◌, subst, ℕ, suc, ◌+◌, ◌≤◌, max, Bool as Truth, true, false}
 use Rattle.std.proofs.Common.{List, [], ◌∷◌, ◌++◌, codes, flat_map, append_assoc, append-nil, Option, Some, None, arith}
 use Rattle.std.specs.List.{AllByRecursion}
-use Rattle.rg_tree.specs.Tree.{Name, Path, Ty, Expr, Right, Method, stmt, StmtKind, declare, assign, assign_element, call, swap, branch, while, enter, print, collect, return}
+use Rattle.rg_tree.specs.Tree.{Name, Path, Ty, Expr, Right, Method}
+use Rattle.rg_tree.specs.Tree.{stmt, StmtKind, declare, assign, assign_element, call, swap, branch, while, enter, print, collect, return}
 use Rattle.rg_tree.specs.Tree.{Else, no_else, otherwise, Block, empty, then as next, Member, field, method, Class, Tree}
 use Rattle.rg_tree.specs.Canonical.{path_text, expr_text, ty_text, call_text, right_text, giving_text, line_of, kind_text, else_text, block_text}
 use Rattle.rg_tree.specs.Canonical.{head_text, member_text, class_word, rest_text, class_text, manager_text, canon}
 use Rattle.rg_limits.specs.Depth.{kind_levels, else_levels, block_levels, AreMembersShallow, AreClassesShallow, IsShallow}
 use Rattle.rg_limits.specs.Brackets.{most_open_from, most_open}
-use Rattle.rg_limits.specs.Plain.{IsPlainName, IsPlainPath, IsPlainExpr, IsPlainRight, IsPlainKind, IsPlainElse, IsPlainBlock, IsPlainMember, HasPlainMembers, IsPlainClass, IsPlain}
+use Rattle.rg_limits.specs.Plain.{IsPlainName, IsPlainPath, IsPlainExpr, IsPlainRight}
+use Rattle.rg_limits.specs.Plain.{IsPlainKind, IsPlainElse, IsPlainBlock, IsPlainMember, HasPlainMembers, IsPlainClass, IsPlain}
 use Rattle.rg_limits.proofs.Moves.{starts-so, Moves, Even, Even-moves, moves, both-even, none-even, no-close, around, brace-opens, brace-closes}
 use Rattle.rg_limits.proofs.Moves.{line-moves, line-even}
-use Rattle.rg_limits.proofs.EvenTexts.{EvenText, ◌&◌, plain, of, path-even, type-even, expr-even, call-even, right-even, giving-even, head-even}
+use Rattle.rg_limits.proofs.EvenTexts.{◌&◌, plain, of, path-even, type-even, expr-even, call-even, right-even, giving-even, head-even}
 use Rattle.rg_limits.proofs.EvenTexts.{manager-even}
 
 at-zero : (n : ℕ) (s : List ℕ) → most_open_from (0 + n) s ≡ most_open_from n s
@@ -53,7 +55,7 @@ module _ (up block down : List ℕ) where
       → (n : ℕ) (rest : List ℕ) → n + levels ≤ most_open_from (i + n) (((up ++ block) ++ down) ++ rest)
   inner i levels u deep n rest =
       let e : ((up ++ block) ++ down) ++ rest ≡ up ++ (block ++ (down ++ rest)) =
-          append_assoc (up ++ block) down rest ∙ append_assoc up block (down ++ rest) in
+      append_assoc (up ++ block) down rest ∙ append_assoc up block (down ++ rest) in
       let p = u n (block ++ (down ++ rest)) in
       let q = deep (1 + n) (down ++ rest) in
       subst (λ (s : List ℕ). n + levels ≤ most_open_from (i + n) s) (sym e) (omega (arith, p, q))
@@ -147,7 +149,7 @@ mutual
       let z = at-zero n (((up ++ block) ++ else_text d other) ++ rest) in
       let y = at-zero n ((up ++ block) ++ (else_text d other ++ rest)) in
       let e : most_open_from n (((up ++ block) ++ else_text d other) ++ rest) ≡ most_open_from n ((up ++ block) ++ (else_text d other ++ rest)) =
-          ap (λ (s : List ℕ). most_open_from n s) (append_assoc (up ++ block) (else_text d other) rest) in
+      ap (λ (s : List ℕ). most_open_from n s) (append_assoc (up ++ block) (else_text d other) rest) in
       both-levels n (block_levels b) (else_levels other) (most_open_from n (((up ++ block) ++ else_text d other) ++ rest))
       (omega (arith, first, z)) (omega (arith, second, front, y, e))
   kind-deep d (while e b) h n rest =
@@ -158,7 +160,7 @@ mutual
   kind-deep d (enter p x b giving) h n rest =
       let up = line_of d ((((codes "enter " ++ path_text p) ++ codes " as ") ++ x) ++ codes " {") in
       let first = inner up (block_text (suc d) b) (line_of d (codes "}" ++ giving_text giving)) 0 (block_levels b) (enter-line d p x h.0 h.1)
-          (block-deep (suc d) b h.2) n rest in
+      (block-deep (suc d) b h.2) n rest in
       let z = at-zero n (kind_text d (enter p x b giving) ++ rest) in
       omega (arith, first, z)
   kind-deep d (print e) h n rest = no-levels n (kind_text d (print e) ++ rest)
@@ -168,7 +170,8 @@ mutual
   else-deep : (d : ℕ) (o : Else) → IsPlainElse o → (n : ℕ) (rest : List ℕ) → n + else_levels o ≤ most_open_from (1 + n) (else_text d o ++ rest)
   else-deep d no_else h n rest = omega (arith, starts-so (1 + n) (else_text d no_else ++ rest))
   else-deep d (otherwise b) h n rest =
-      inner (line_of d (codes "} else {")) (block_text (suc d) b) (line_of d (codes "}")) 1 (block_levels b) (between d) (block-deep (suc d) b h) n rest
+      inner (line_of d (codes "} else {")) (block_text (suc d) b) (line_of d (codes "}")) 1 (block_levels b) (between d)
+      (block-deep (suc d) b h) n rest
 
   block-deep : (d : ℕ) (b : Block) → IsPlainBlock b → (n : ℕ) (rest : List ℕ) → n + block_levels b ≤ suc (most_open_from n (block_text d b ++ rest))
   block-deep d empty h n rest = omega (arith, starts-so n rest)
@@ -179,7 +182,7 @@ mutual
       let second = block-deep d b h.1 n rest in
       let over = kind-even d k h.0 n (t ++ rest) in
       let e : most_open_from n ((s ++ t) ++ rest) ≡ most_open_from n (s ++ (t ++ rest)) =
-          ap (λ (r : List ℕ). most_open_from n r) (append_assoc s t rest) in
+      ap (λ (r : List ℕ). most_open_from n r) (append_assoc s t rest) in
       both-levels n (suc (kind_levels k)) (block_levels b) (suc (most_open_from n ((s ++ t) ++ rest)))
       (omega (arith, first, e)) (omega (arith, second, over, e))
 
@@ -225,7 +228,7 @@ members-deep (m ∷ ms) h n rest =
     one (field f) p s others = others
     one (method m) p s others =
         let first = inner (line_of 1 ((codes "def " ++ head_text m) ++ codes " {")) (block_text 2 m.body) (line_of 1 (codes "}")) 0
-            (block_levels m.body) (method-line m p) (block-deep 2 m.body p.3) n s in
+        (block_levels m.body) (method-line m p) (block-deep 2 m.body p.3) n s in
         let z = at-zero n (member_text (method m) ++ s) in
         (omega (arith, first, z), others)
 
@@ -243,10 +246,11 @@ rest-even (Some t) ms h =
     let p = around 91 93 (32 ∷ []) s refl refl refl (no-close (32 ∷ []) refl) (type-even t h.0) in
     let x = codes " [" ++ s in
     let e : (x ++ 93 ∷ []) ++ (59 ∷ 10 ∷ []) ≡ (x ++ codes "];") ++ 10 ∷ [] =
-        append_assoc x (93 ∷ []) (59 ∷ 10 ∷ []) ∙ sym (append_assoc x (codes "];") (10 ∷ [])) in
+    append_assoc x (93 ∷ []) (59 ∷ 10 ∷ []) ∙ sym (append_assoc x (codes "];") (10 ∷ [])) in
     subst Even e (both-even (x ++ 93 ∷ []) (59 ∷ 10 ∷ []) p (no-close (59 ∷ 10 ∷ []) refl))
 
-rest-deep : (o : Option Ty) (ms : List Member) → HasPlainMembers o ms → (n : ℕ) (s : List ℕ) → AreMembersShallow (most_open_from n (rest_text o ms ++ s)) ms
+rest-deep : (o : Option Ty) (ms : List Member) → HasPlainMembers o ms → (n : ℕ) (s : List ℕ)
+    → AreMembersShallow (most_open_from n (rest_text o ms ++ s)) ms
 rest-deep None ms h n s =
     let flat = flat_map member_text ms in
     let down = line_of 0 (codes "}") in
@@ -254,7 +258,7 @@ rest-deep None ms h n s =
     let over = class-line n (flat ++ (down ++ s)) in
     let z = at-zero n ((32 ∷ 123 ∷ 10 ∷ []) ++ (flat ++ (down ++ s))) in
     let e : rest_text None ms ++ s ≡ (32 ∷ 123 ∷ 10 ∷ []) ++ (flat ++ (down ++ s)) =
-        append_assoc ((32 ∷ 123 ∷ 10 ∷ []) ++ flat) down s ∙ append_assoc (32 ∷ 123 ∷ 10 ∷ []) flat (down ++ s) in
+    append_assoc ((32 ∷ 123 ∷ 10 ∷ []) ++ flat) down s ∙ append_assoc (32 ∷ 123 ∷ 10 ∷ []) flat (down ++ s) in
     subst (λ (r : List ℕ). AreMembersShallow (most_open_from n r) ms) (sym e)
     (more-shallow (most_open_from (1 + n) (flat ++ (down ++ s))) (most_open_from n ((32 ∷ 123 ∷ 10 ∷ []) ++ (flat ++ (down ++ s)))) ms
     (omega (arith, over, z)) deep)
@@ -290,9 +294,10 @@ classes-deep [] h n s = tt
 classes-deep (c ∷ cs) h n s =
     let flat = flat_map class_text cs in
     let over = class-even c h.0 n (flat ++ s) in
-    subst (λ (r : List ℕ). AreClassesShallow (most_open_from n r) (c ∷ cs)) (sym (append_assoc (class_text c) flat s))
-    (class-deep c h.0 n (flat ++ s),
-    classes-more (most_open_from n (flat ++ s)) (most_open_from n (class_text c ++ (flat ++ s))) cs over (classes-deep cs h.1 n s))
+    subst (λ (r : List ℕ). AreClassesShallow (most_open_from n r) (c ∷ cs)) (sym (append_assoc (class_text c) flat s)) (
+      class-deep c h.0 n (flat ++ s),
+      classes-more (most_open_from n (flat ++ s)) (most_open_from n (class_text c ++ (flat ++ s))) cs over (classes-deep cs h.1 n s),
+    )
 
 -- Programs
 
@@ -303,13 +308,13 @@ blocks-open t h most l =
     let block = block_text 1 t.body in
     let down = line_of 0 (codes "}") in
     let u = opening 0 (codes "main " ++ manager_text t.manager)
-        (plain (codes "main ") refl & of (manager_text t.manager) (manager-even t.manager)).even in
+    (plain (codes "main ") refl & of (manager_text t.manager) (manager-even t.manager)).even in
     let e : canon t ≡ a ++ ((up ++ block) ++ down) =
-        ap (λ (s : List ℕ). s ++ down) (append_assoc a up block) ∙ append_assoc a (up ++ block) down in
+    ap (λ (s : List ℕ). s ++ down) (append_assoc a up block) ∙ append_assoc a (up ++ block) down in
     let whole : most_open (a ++ ((up ++ block) ++ down)) ≤ most = subst (λ (s : List ℕ). most_open s ≤ most) e l in
     let deep = inner up block down 0 (block_levels t.body) u (block-deep 1 t.body h.body) 0 [] in
     let n : most_open_from (0 + 0) (((up ++ block) ++ down) ++ []) ≡ most_open_from 0 ((up ++ block) ++ down) =
-        ap (λ (s : List ℕ). most_open_from 0 s) (append-nil ((up ++ block) ++ down)) in
+    ap (λ (s : List ℕ). most_open_from 0 s) (append-nil ((up ++ block) ++ down)) in
     let over = classes-even t.classes h.classes 0 ((up ++ block) ++ down) in
     record {
       main = omega (arith, whole, deep, n, over);

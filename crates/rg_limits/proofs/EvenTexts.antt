@@ -1,8 +1,7 @@
 -- The texts of what stands in a statement's line close no more brackets than they open.
-use Rattle.std.proofs.Common.{◌≡◌, refl, ℕ, ◌+◌, Bool as Truth, true, false, List, [], ◌∷◌, ◌++◌, codes, nat_lt, Option, Some, None, IfSome}
+use Rattle.std.proofs.Common.{◌≡◌, refl, ℕ, Bool as Truth, true, false, List, [], ◌∷◌, ◌++◌, codes, nat_lt, Option, Some, None, IfSome}
 use Rattle.std.proofs.Common.{flat_map}
 use Rattle.std.specs.List.{AllByRecursion, list_any}
-use Rattle.std.specs.Fmt.{signed_decimal}
 use Rattle.rg_tree.specs.declared.rows.BinOp.{BinOp}
 use Rattle.rg_tree.specs.declared.rows.BinOp.TheVariants.{Or, And, Eq, Ne, Lt, Le, Gt, Ge, Add, Sub, Mul, Div, Rem}
 use Rattle.rg_base.specs.declared.words.Cap.{Cap}
@@ -10,9 +9,10 @@ use Rattle.rg_base.specs.declared.words.Cap.TheVariants.{Mut, Tmp, Paused, Imm, 
 use Rattle.rg_base.specs.declared.words.Manager.{Manager}
 use Rattle.rg_base.specs.declared.words.Manager.TheVariants.{Arena, Count, Trace}
 use Rattle.rg_base.specs.Text.{bool_text}
-use Rattle.rg_tree.specs.Tree.{Name, Variable, Path, Ty, int, bool, ref, Expr, number, boolean, nil, path, is_nil, neg, not, binary, size, element, Call}
+use Rattle.rg_tree.specs.Tree.{Name, Variable, Path, Ty, int, bool, ref, Expr, number, boolean, nil, path, is_nil, neg, not, binary, size, element}
+use Rattle.rg_tree.specs.Tree.{Call}
 use Rattle.rg_tree.specs.Tree.{Right, value, new, new_tmp, new_iso, freeze, merge, read, more, result_of, Param, Method}
-use Rattle.rg_tree.specs.Canonical.{op_text, cap_text, manager_text, left_level, right_level, level, base_text, path_text, in_parens, operand, expr_text}
+use Rattle.rg_tree.specs.Canonical.{op_text, cap_text, manager_text, left_level, right_level, level, base_text, path_text, operand, expr_text}
 use Rattle.rg_tree.specs.Canonical.{ty_text, joined, arg_texts, call_text, size_text, right_text, giving_text, param_texts, result_text, head_text}
 use Rattle.rg_limits.specs.Brackets.{closes}
 use Rattle.rg_limits.specs.Plain.{IsPlainName, IsPlainPath, IsPlainType, IsPlainExpr, IsPlainCall, IsPlainRight, IsPlainParam}
@@ -157,5 +157,5 @@ pub head-even : (m : Method) → IsPlainName m.name → AllByRecursion IsPlainPa
 head-even m name params result =
     let front = of (cap_text m.receiver) (cap-even m.receiver) & plain (codes " ") refl & plain m.name name in
     (of (((front.text ++ codes "(") ++ joined (param_texts m.params)) ++ codes ")")
-        (around 40 41 front.text (joined (param_texts m.params)) refl refl refl front.even (params-even m.params params))
+    (around 40 41 front.text (joined (param_texts m.params)) refl refl refl front.even (params-even m.params params))
     & of (result_text m.result) (result-even m.result result)).even

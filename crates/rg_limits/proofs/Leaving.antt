@@ -10,7 +10,7 @@ use Rattle.rg_rules.specs.Names.{stmt_names, block_names}
 use Rattle.rg_limits.specs.Each.{HoldsInBlock}
 use Rattle.rg_limits.specs.Signs.{expr_signs, exprs_signs}
 use Rattle.rg_limits.specs.Numbers.{HasSmall}
-use Rattle.rg_limits.specs.Inner.Telling.{Leaves}
+use Rattle.rg_limits.specs.Inner.Counting.{Leaves}
 use Rattle.rg_limits.specs.Inner.Fine.{IsFine, IsStmtFine}
 
 -- what is left behind two parts

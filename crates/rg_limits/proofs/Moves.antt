@@ -1,6 +1,7 @@
 -- How a text moves the count of open brackets, from below.
-use Rattle.std.proofs.Common.{◌≡◌, refl, sym, ap, ◌∙◌, subst, ℕ, zero, suc, ◌+◌, ◌-◌, ◌*◌, ◌==◌, ◌<◌, ◌≤◌, ◌||◌, max, Bool as Truth, true, false, if◌then◌else◌}
-use Rattle.std.proofs.Common.{List, [], ◌∷◌, ◌++◌, codes, replicate, append_assoc, decimal, ℤ, pos, negsuc, unsigned_abs, arith}
+use Rattle.std.proofs.Common.{◌≡◌, refl, sym, ap, ◌∙◌, subst, ℕ, zero, suc, ◌+◌, ◌-◌, ◌*◌, ◌==◌, ◌<◌, ◌≤◌, ◌||◌, Bool as Truth, true, false}
+use Rattle.std.proofs.Common.{if◌then◌else◌}
+use Rattle.std.proofs.Common.{List, [], ◌∷◌, ◌++◌, replicate, append_assoc, decimal, ℤ, pos, negsuc, unsigned_abs, arith}
 use Rattle.std.specs.List.{list_any}
 use Rattle.std.specs.Str.Parse.{AllDigits}
 use Rattle.std.specs.Char.{digit_value}
@@ -93,6 +94,7 @@ in-brackets o c s x y z h n rest =
         let d : open_behind c (n + 1) ≡ n = rw (y, z) q in
         let g : most_open_from (open_behind c (n + 1)) rest ≡ most_open_from n rest = ap (λ (k : ℕ). most_open_from k rest) d in
         omega (arith, g)
+
     opening : (o n : ℕ) (t : List ℕ) → opens o ≡ true → most_open_from (n + 1) t ≤ most_open_from n (o ∷ t)
     opening o n t x =
         let d : open_behind o n ≡ n + 1 = rw x refl in
@@ -152,6 +154,7 @@ digit-stays c h = by (c == 125) (c == 41) (c == 93) refl refl refl
   where
     at : (k : ℕ) → c ≡ k → digit_value k < 10
     at k e = subst (λ (x : ℕ). digit_value x < 10) e h
+
     by : (x y z : Truth) → (c == 125) ≡ x → (c == 41) ≡ y → (c == 93) ≡ z → (x || y || z) ≡ false
     by true y z d e f = absurd (omega (arith, at 125 (is-that c 125 d)))
     by false true z d e f = absurd (omega (arith, at 41 (is-that c 41 e)))

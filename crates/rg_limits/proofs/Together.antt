@@ -14,7 +14,7 @@ use Rattle.rg_limits.specs.Signs.{HasFewOwnSigns}
 use Rattle.rg_limits.specs.Numbers.{HasOwnSmall}
 use Rattle.rg_limits.specs.Brackets.{most_open}
 use Rattle.rg_limits.specs.Limits.{IsWithinLimits}
-use Rattle.rg_limits.specs.Inner.Telling.{Tells}
+use Rattle.rg_limits.specs.Telling.{Tells}
 use Rattle.rg_limits.specs.Inner.Fine.{IsFine, IsMemberFine, IsClassFine}
 
 -- What holds of each statement says less, or two things at once

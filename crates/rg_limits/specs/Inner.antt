@@ -1,3 +1,3 @@
--- What private functions answer.
-pub mod Telling
+-- What private functions answer, and what they test.
+pub mod Counting
 pub mod Fine

@@ -6,6 +6,7 @@ pub mod Signs
 pub mod Numbers
 pub mod Brackets
 pub mod Limits
+pub mod Telling
 pub mod Plain
 pub mod Laws
 pub mod Inner

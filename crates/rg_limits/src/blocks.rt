@@ -7,7 +7,7 @@ ghost use Rattle.rg_tree.specs.Rows.RowTrees.{block_of, else_over, stmt_at};
 ghost use Rattle.rg_tree.specs.Rows.RowsExist.{IsBlockIn};
 ghost use Rattle.rg_rules.specs.Names.{block_names, else_names, stmt_names};
 ghost use Rattle.rg_limits.specs.Each.{HoldsBehind, HoldsInBlock};
-ghost use Rattle.rg_limits.specs.Inner.Telling.{Leaves};
+ghost use Rattle.rg_limits.specs.Inner.Counting.{Leaves};
 ghost use Rattle.rg_limits.specs.Inner.Fine.{IsFine, IsStmtFine};
 
 use crate::statements::left_by;

@@ -8,7 +8,7 @@ ghost use Rattle.rg_tree.specs.Rows.RowTrees.{block_of, class_of, classes_of, me
 ghost use Rattle.rg_tree.specs.Rows.RowsExist.{IsBlockIn, IsClassIn};
 ghost use Rattle.rg_rules.specs.Names.{block_names};
 ghost use Rattle.rg_limits.specs.Each.{HoldsInBlock};
-ghost use Rattle.rg_limits.specs.Inner.Telling.{Tells};
+ghost use Rattle.rg_limits.specs.Telling.{Tells};
 ghost use Rattle.rg_limits.specs.Inner.Fine.{IsClassFine, IsFine, IsMemberFine};
 
 use crate::blocks::left_in_block;

@@ -4,7 +4,7 @@ ghost use Rattle.std.specs.Prelude.{◌≡◌, ◌≤◌};
 ghost use Rattle.rg_base.specs.declared.limits.TheConstants.{BRACKETS};
 ghost use Rattle.rg_limits.specs.Brackets as rules;
 ghost use Rattle.rg_limits.specs.Brackets.{most_open};
-ghost use Rattle.rg_limits.specs.Inner.Telling.{Tells};
+ghost use Rattle.rg_limits.specs.Telling.{Tells};
 
 use rg_base::BRACKETS;
 

@@ -10,7 +10,7 @@ ghost use Rattle.rg_tree.specs.Rows.Tables.{numbers_in};
 ghost use Rattle.rg_limits.specs.Each.{right_exprs};
 ghost use Rattle.rg_limits.specs.Signs.{expr_signs, exprs_signs};
 ghost use Rattle.rg_limits.specs.Numbers.{HasSmall};
-ghost use Rattle.rg_limits.specs.Inner.Telling.{Leaves};
+ghost use Rattle.rg_limits.specs.Inner.Counting.{Leaves};
 
 use rg_base::GREATEST_NUMBER;
 use rg_tree::{ExprRow, Program, Right, Span};

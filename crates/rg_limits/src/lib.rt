@@ -2,8 +2,8 @@
 //! their canonical text (`IsWithinLimits` of `specs/Limits`). `is_within_limits` tells whether a
 //! program is one. It takes time that is linear in the program's text, and memory for that text.
 //! The laws: such a program has few parts, and blocks no deeper than brackets may be
-//! (`limits_bound`), of which the second follows from the brackets of the text where no name has one
-//! (`brackets_bound_blocks`); and the lines that no mark has make no difference
+//! (`limits_bound`), of which the second follows from the brackets of the text where no name has
+//! one (`brackets_bound_blocks`); and the lines that no mark has make no difference
 //! (`limits_are_lineless`). All else in the crate is private.
 #![tactic(auto)]
 

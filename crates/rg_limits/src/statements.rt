@@ -4,7 +4,7 @@
 ghost use Rattle.std.specs.Prelude.{◌≤◌, ◌<◌, length};
 ghost use Rattle.rg_base.specs.declared.limits.TheConstants.{STATEMENT_SIGNS};
 ghost use Rattle.rg_tree.specs.Rows.RowTrees.{stmt_at};
-ghost use Rattle.rg_limits.specs.Inner.Telling.{Leaves};
+ghost use Rattle.rg_limits.specs.Inner.Counting.{Leaves};
 ghost use Rattle.rg_limits.specs.Inner.Fine.{own_signs, IsOwnSmall};
 
 use crate::expressions::{left_behind, left_behind_args, left_behind_right};

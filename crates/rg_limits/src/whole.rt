@@ -6,7 +6,7 @@ ghost use Rattle.rg_tree.specs.Rows.RowTrees.{program_of};
 ghost use Rattle.rg_limits.specs.Parts.{HasFewParts};
 ghost use Rattle.rg_limits.specs.Depth.{IsShallow};
 ghost use Rattle.rg_limits.specs.Limits.{IsWithinLimits};
-ghost use Rattle.rg_limits.specs.Inner.Telling.{Tells};
+ghost use Rattle.rg_limits.specs.Telling.{Tells};
 
 use crate::bodies::{are_classes_fine, is_main_fine};
 use crate::brackets::opens_few;

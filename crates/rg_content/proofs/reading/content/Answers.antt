@@ -1,9 +1,8 @@
-use Rattle.std.proofs.Common.{◌≡◌, ◌∙◌, inl, inr, sym, ap, subst}
-use Rattle.rg_rules.specs.State.{State}
+use Rattle.std.proofs.Common.{◌∙◌, inl, inr, sym, ap, subst}
 use Rattle.rg_base.specs.declared.value.Word.TheVariants as word
 use Rattle.rg_regions.specs.Table.{IsBridge}
 use Rattle.rg_cown.specs.Cargo.{CargoList}
-use Rattle.rg_cown.specs.Contents.{cargo_at, cargo_of}
+use Rattle.rg_cown.specs.Contents.{cargo_at}
 use Rattle.rg_heap.specs.Parts.{Parts as HeapParts}
 use Rattle.rg_content.proofs.Told.{may-read, said}
 use Rattle.rg_content.proofs.reading.content.Goals as goal
