@@ -9,12 +9,13 @@ use Rattle.rg_rules.specs.Types.{fields_of}
 use Rattle.rg_rules.specs.Runs.{Running, Done, Stopped, Ran}
 use Rattle.rg_code.specs.Code.{Code}
 use Rattle.rg_cown.specs.Cargo.{CargoList}
-use Rattle.rg_contents.specs.Laws.{IsReached, RunsAreOfBehaviours}
+use Rattle.rg_contents.specs.Laws.{IsReached, BeginningIsAllowed, RunsAreOfBehaviours}
+use Rattle.rg_contents.specs.Rest.{IsReady}
 use Rattle.rg_first.specs.First.{IsOfBehaviour}
 use Rattle.rg_plan.specs.Laws.{IsGoodTurn, PlansAreGood}
 use Rattle.rg_plan.specs.Plans.{Turn as Behaviour, PlanOf}
 use Rattle.rg_sched.specs.Numbers.{In, Distinct}
-use Rattle.rg_sched.specs.Contents.{Content, Away, Empty, contents_at, put, left_by}
+use Rattle.rg_sched.specs.Contents.{Content, Away, Empty, contents_at, givens, put, left_by}
 use Rattle.rg_sched.specs.Behaviours.{run_of, cowns_in, cowns_of}
 use Rattle.rg_sched.specs.Phases.{printed_by}
 use Rattle.rg_sched.specs.Settings.{Setting, setting_of}
@@ -31,7 +32,7 @@ use Rattle.rg_world.specs.Standing.{RunsAs, StandsAs, IsProgress}
 use Rattle.rg_world.specs.Worlds.{WorldIn, Shows, IsBehind}
 use Rattle.rg_world.specs.Inner.Steps.{all_lower, is_ended, runs_so, contents_with, Leaves}
 use Rattle.rg_world.proofs.Lists.{get-same}
-use Rattle.rg_world.proofs.Events.{after-push, waits, goes, done-stays, stopped-stays, contents-length, start-length, put-away}
+use Rattle.rg_world.proofs.Events.{after-push, waits, goes, done-stays, stopped-stays, contents-length, runs-length, start-length, put-away}
 use Rattle.rg_world.proofs.Shown.{told-again, runs-as, lower-same}
 
 at-is : {X : Type 0} → (xs : List X) (P : X → Type 0) (i : ℕ) (x : X) → All P xs → slice_get xs i ≡ Some x → P x
@@ -95,6 +96,10 @@ module _ (t : Tree) (code : Code) (p : PlanOf) (images : List CargoList) (schedu
   pub class-below : PlansAreGood → b.class < length t.classes
   class-below plans = slice_get_within t.classes b.class (good plans).class (good plans).there
 
+  -- there are as many as the plan has
+  pub progress-below : i < length m.progress
+  progress-below = subst (λ n. i < n) (sym (h.shows.many ∙ runs-length t.classes setting schedule)) (slice_get_within p.behaviours i b there)
+
   cowns-many : length m.contents ≡ length p.cowns
   cowns-many = ap length h.shows.contents ∙ contents-length t.classes p images schedule h.plan.many
 
@@ -143,6 +148,10 @@ module _ (t : Tree) (code : Code) (p : PlanOf) (images : List CargoList) (schedu
       (waits t.classes p.behaviours i b world true there none (sym (lower-same t code m world p.behaviours i h.shows) ∙ lower)
       ∙ ap (λ (z : List ℕ). record { told = tell t.classes i b r world.told; began = z ++ i ∷ []; turns = world.turns }) (sym h.shows.began))
       shown
+
+  pub ready-now : BeginningIsAllowed → IsReady t b (givens (fields_of t.classes b.class) (contents_at m.contents b.cowns))
+  ready-now laws = subst (λ z. IsReady t b (givens (fields_of t.classes b.class) (contents_at z b.cowns))) (sym h.shows.contents)
+      (laws t p world i b reached there)
 
   -- one that is running
 

@@ -2,7 +2,7 @@
 use Rattle.std.proofs.Common.{◌≡◌, ℕ, zero, suc, ◌<◌, ◌≤◌, ◌⊎◌, inl, inr, Bool, true, false, List, [], ◌∷◌, ◌++◌, length, get_or, set, map, Option, Some}
 use Rattle.std.proofs.Common.{None, slice_get, refl, sym, ap, ◌∙◌, subst, arith}
 use Rattle.std.specs.Prelude.{if◌then◌else◌}
-use Rattle.std.proofs.lemmas.List.{length-set, length-map, set-get_or}
+use Rattle.std.proofs.lemmas.List.{length-set, length-map, length-replicate, set-get_or}
 use Rattle.rg_tree.specs.Tree.{Class}
 use Rattle.rg_rules.specs.Runs.{Ending, Running, Done, Stopped, Ran}
 use Rattle.rg_cown.specs.Cargo.{CargoList}
@@ -110,3 +110,32 @@ put-away (n ∷ ns) cs h =
 pub put-none : (ns : List ℕ) (cs : List Content) → put ns [] cs ≡ put ns (map (λ n. Empty) ns) cs
 put-none [] cs = refl
 put-none (n ∷ ns) cs = put-none ns (set cs n Empty)
+
+-- the behaviours that there are stay
+
+event-runs : (classes : List Class) (bs : List Behaviour) (i : ℕ) (w : World) → length (event classes bs i w).told.runs ≡ length w.told.runs
+event-runs classes bs i w = by (slice_get bs i) (get_or w.told.runs i None)
+  where
+    if_may : (z : Bool) (b : Behaviour) → length (if z then begins classes i b w else w).told.runs ≡ length w.told.runs
+    if_may true b = length-set w.told.runs i _
+    if_may false b = refl
+
+    if_runs : (e : Ending) (b : Behaviour) (r : Ran) → length (event_by classes i b r e w).told.runs ≡ length w.told.runs
+    if_runs Running b r = length-set w.told.runs i _
+    if_runs Done b r = refl
+    if_runs (Stopped kind line) b r = refl
+
+    by : (o : Option Behaviour) (run : Option Ran) → length (event_of classes bs i o run w).told.runs ≡ length w.told.runs
+    by None run = refl
+    by (Some b) None = if_may (may_begin bs w.told.runs i) b
+    by (Some b) (Some r) = if_runs r.ending b r
+
+after-runs : (classes : List Class) (bs : List Behaviour) (schedule : List ℕ) (w : World)
+    → length (after classes bs schedule w).told.runs ≡ length w.told.runs
+after-runs classes bs [] w = refl
+after-runs classes bs (i ∷ schedule) w = after-runs classes bs schedule (event classes bs i w) ∙ event-runs classes bs i w
+
+pub runs-length : (classes : List Class) (s : Setting) (schedule : List ℕ) → length (world_after classes s schedule).told.runs ≡ length s.behaviours
+runs-length classes s schedule =
+    let none : Option Ran = None in
+    after-runs classes s.behaviours schedule (first_world s) ∙ length-replicate (length s.behaviours) none

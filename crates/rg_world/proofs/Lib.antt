@@ -7,3 +7,4 @@ mod Behind
 mod Stepped
 mod Returned
 mod Opened
+mod Members

@@ -66,3 +66,18 @@ begins-as t code b cs old new accepted lowers ready h =
 -- nothing is printed yet
 pub silent : (classes : List Class) (b : Behaviour) (cs : List Content) → (run_of classes b cs 0).state.output ≡ []
 silent classes b cs = ap (λ (z : Ran). z.state.output) (opened-is classes b cs)
+
+pub may-start : (t : Tree) (code : Code) (b : Behaviour) (gs given : List Given) (class method : ℕ) → Accepted t → Lowers t code → IsReady t b gs
+    → class ≡ b.class → method ≡ b.method → given ≡ gs → (x : Tree) × (m : Method) × Starts x code class method m given
+may-start t code b gs given class method accepted lowers ready k n g = (
+  t,
+  ready.method,
+  subst (λ z. Starts t code class method ready.method z) (sym g) (subst (λ z. Starts t code class z ready.method gs) (sym n)
+  (subst (λ z. Starts t code z b.method ready.method gs) (sym k) (starts t code b gs accepted lowers ready))),
+)
+
+pub begins-same : (code : Code) (b : Behaviour) (gs given : List Given) (class method : ℕ) (old new : Stepping) → class ≡ b.class → method ≡ b.method
+    → given ≡ gs → Begins code class method given old new → Begins code b.class b.method gs old new
+begins-same code b gs given class method old new k n g h =
+    subst (λ z. Begins code b.class b.method z old new) g (subst (λ z. Begins code b.class z given old new) n
+    (subst (λ z. Begins code z method given old new) k h))

@@ -114,8 +114,8 @@ back-iso t class s n f before rest back new o x first iso holds is grown h =
           ∙ ap (λ z. map content_in z ++ behind) (grown ∙ ap (λ z. back ++ z ∷ []) is)
           ∙ ap (λ z. z ++ behind) (map-append content_in back (slot_of o ∷ []))
           ∙ append_assoc (map content_in back) (content_in (slot_of o) ∷ []) behind
-          ∙ ap (λ z. map content_in back ++ z ∷ behind) (sym v.2.1)
-          ∙ ap (λ z. map content_in back ++ map (content_of s) z) (sym (take-one f rest (values_of s) n v.0 iso v.2.0))
+          ∙ ap (λ z. map content_in back ++ z ∷ behind) (sym v.2)
+          ∙ ap (λ z. map content_in back ++ map (content_of s) z) (sym (take-one f rest (values_of s) n v.0 iso v.1))
           ∙ ap (λ z. map content_in back ++ map (content_of s) (iso_values z (drop n (values_of s)))) (sym first)
           ∙ h.is;
     }
@@ -135,3 +135,12 @@ back-other t class s n f before rest back first other h =
 pub next-place : (fs : List Field) (n : ℕ) (f : Field) (before rest : List Field) → before ≡ f ∷ rest → drop n fs ≡ before → drop (n + 1) fs ≡ rest
 next-place fs n f before rest first place =
     let one : n + 1 ≡ suc n = omega arith in ap (λ k. drop k fs) one ∙ rest-fields fs n f rest (place ∙ first)
+
+right-nil : {X : Type 0} → (xs : List X) → xs ++ [] ≡ xs
+right-nil [] = refl
+right-nil (x ∷ xs) = ap (λ z. x ∷ z) (right-nil xs)
+
+pub back-end : (t : Tree) (class : ℕ) (s : State) (n : ℕ) (rest : List Field) (back : List Slot) → rest ≡ [] → GoesBack t class rest n back s
+    → map content_in back ≡ goes_back (fields_of t.classes class) s
+back-end t class s n rest back none h =
+    sym (right-nil (map content_in back)) ∙ ap (λ z. map content_in back ++ map (content_of s) (iso_values z (drop n (values_of s)))) (sym none) ∙ h.is

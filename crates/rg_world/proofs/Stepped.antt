@@ -149,7 +149,7 @@ step-tells t code r class old new result before after lasts h is-first fresh fac
     let q = step.0 in
     tells t code r old.stepper new.stepper h q result one.1.sound
     (lasts t code old new result _ _ class r.state h.runs (h.input ∙ sym start) is-first h.sound h.first one.1)
-    step.2.1 (λ went. by q went step.2.2 (asks-or-not (first_asks r.state.items))) (λ e. not-risen (fault e)) step.2.0
+    step.2 (λ went. by q went step.3 (asks-or-not (first_asks r.state.items))) (λ e. not-risen (fault e)) step.1
   where
     by : (q : State) → next t.classes r.state ≡ Went q → q.input ≡ after.held ++ []
         → (first_asks r.state.items ≡ true) ⊎ (first_asks r.state.items ≡ false) → q.input ≡ []

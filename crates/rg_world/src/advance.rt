@@ -1,6 +1,6 @@
 //! One step of a running behaviour (docs/architecture.md, "Worlds").
 
-ghost use Rattle.std.specs.Prelude.{◌≡◌, ◌<◌, ℕ, suc, Some, length, IfOk};
+ghost use Rattle.std.specs.Prelude.{◌≡◌, ◌<◌, ℕ, suc, Some, length, option_map, IfOk};
 ghost use Rattle.rg_tree.specs.Tree.{Tree};
 ghost use Rattle.rg_tree.specs.Rows.RowTrees.{classes_of, program_of};
 ghost use Rattle.rg_rules.specs.Types.{fields_of};
@@ -110,7 +110,8 @@ pub(crate) fn advance(
     ensures { let t = program_of book.now.program in (r : Ran) (n : ℕ) →
         IsProgress t code.now (Some r) n progress.old → r.ending ≡ going →
         IsFirst t.classes class r.state → IsOfBehaviour t class (one_more t.classes r).state →
-        IfOk result (λ left. Leaves (fields_of t.classes class) (one_more t.classes r) left
+        IfOk result (λ left. Leaves (fields_of t.classes class) (one_more t.classes r)
+        (option_map (λ v. v.items) left)
         × IsProgress t code.now (Some (one_more t.classes r)) (suc n) progress.new) }
 {
     if progress.turns == u64::MAX {

@@ -1,7 +1,7 @@
 //! Worlds over machines (docs/architecture.md, "Worlds").
 
 ghost use Rattle.std.specs.Prelude.{◌≡◌, ◌<◌, ◌++◌, ◌∷◌, [], ℕ, List, Some, length, slice_get};
-ghost use Rattle.std.specs.Prelude.{IfOk, OnOk, option_map, true};
+ghost use Rattle.std.specs.Prelude.{IfOk, OnOk, option_map, replicate, true};
 ghost use Rattle.rg_tree.specs.Rows.RowTrees.{program_of};
 ghost use Rattle.rg_code.specs.Code.{Code};
 ghost use Rattle.rg_code.specs.Lowering.{Lowers};
@@ -9,7 +9,7 @@ ghost use Rattle.rg_cown.specs.Cargo.{CargoList};
 ghost use Rattle.rg_slots.specs.Slots.{content_in};
 ghost use Rattle.rg_world.specs.Standing.{phase_in, stepper_in};
 ghost use Rattle.rg_world.specs.Worlds.{IsBehind, IsReadFor};
-ghost use Rattle.rg_world.specs.Inner.Steps.{all_lower, is_ended, is_waiting, is_running};
+ghost use Rattle.rg_world.specs.Inner.Steps.{all_lower, is_ended, is_waiting, is_running, waiting};
 
 use crate::advance::advance;
 use crate::begun::begun;
@@ -64,17 +64,7 @@ impl World {
         plans_are_good();
         accepted.program();
         let slots = Slots::open(alloc, &accepted.book(), plan, images)?;
-        let mut progress = Vec::new(alloc);
-        for i in 0..plan.behaviours() {
-            let waiting = Progress {
-                standing: Standing::Waiting,
-                printed: Vals::new(alloc),
-                turns: 0,
-            };
-            let Ok(()) = progress.push(waiting) else {
-                return Err(Memory);
-            };
-        }
+        let progress = all_waiting(alloc, plan.behaviours() as usize)?;
         Ok(World {
             progress,
             slots,
@@ -277,4 +267,22 @@ impl World {
     {
         self.slots.get(cown)
     }
+}
+
+// So many behaviours that haven't begun.
+fn all_waiting(alloc: Global, many: usize) -> Result<Vec<Progress>, Memory>
+    ensures { IfOk result (λ all. all.items ≡ replicate many waiting) }
+{
+    let mut all = Vec::new(alloc);
+    while all.len() < many {
+        let waiting = Progress {
+            standing: Standing::Waiting,
+            printed: Vals::new(alloc),
+            turns: 0,
+        };
+        let Ok(()) = all.push(waiting) else {
+            return Err(Memory);
+        };
+    }
+    Ok(all)
 }

@@ -51,7 +51,7 @@ IsLeft fields r back = (ns : List ℕ) (cs : List Content) → put ns (map conte
 abbrev pub CameTo : Tree → Code → (printed : List Val) → List Field → Ran → Standing → Stepped → Type 0
 CameTo t code printed fields r s stepped.On = StandsAs t code (Some r) s × (r.ending ≡ Running) × (r.state.output ≡ printed)
 CameTo t code printed fields r s (stepped.Printed v) = StandsAs t code (Some r) s × (r.ending ≡ Running) × (r.state.output ≡ printed ++ v ∷ [])
-CameTo t code printed fields r s (stepped.Ended back) = StandsAs t code (Some r) s × IsLeft fields r back × (r.state.output ≡ printed)
+CameTo t code printed fields r s (stepped.Ended back) = StandsAs t code (Some r) s × IsLeft fields r back.items × (r.state.output ≡ printed)
 
 -- what a run that goes on leaves, and one that has ended
 abbrev pub Leaves : List Field → Ran → Option (List Slot) → Type 0
@@ -103,3 +103,7 @@ is_running (Some p) = runs_so p.standing
 abbrev pub slot_of : Option CargoList → Slot
 slot_of None = slots.Empty
 slot_of (Some c) = slots.Held c
+
+-- a behaviour that hasn't begun
+abbrev pub waiting : Progress
+waiting = record { standing = stands.Waiting; printed = []; turns = 0 }
