@@ -11,7 +11,7 @@ use Rattle.rg_code.specs.Code.{Code}
 use Rattle.rg_cown.specs.Cargo.{CargoList}
 use Rattle.rg_contents.specs.Laws.{IsReached, BeginningIsAllowed, RunsAreOfBehaviours}
 use Rattle.rg_contents.specs.Rest.{IsReady}
-use Rattle.rg_first.specs.First.{IsOfBehaviour}
+use Rattle.rg_first.specs.First.{IsFirst, IsOfBehaviour}
 use Rattle.rg_plan.specs.Laws.{IsGoodTurn, PlansAreGood}
 use Rattle.rg_plan.specs.Plans.{Turn as Behaviour, PlanOf}
 use Rattle.rg_sched.specs.Numbers.{In, Distinct}
@@ -173,6 +173,24 @@ module _ (t : Tree) (code : Code) (p : PlanOf) (images : List CargoList) (schedu
       let within = subst (λ n. i < n) h.shows.many (slice_get_within m.progress i q at) in
       laws t p u i b (one_more t.classes r) (reached-next u (goes t.classes p.behaviours i b world r there told on)) there
       (get_or-set_same world.told.runs i (Some (one_more t.classes r)) None within)
+
+  -- what a step asks for
+  pub advance-needs : RunsAreOfBehaviours → (q x : Progress) (class : ℕ) (u : Tree) → slice_get m.progress i ≡ Some q → runs_so q.standing ≡ true
+      → x ≡ q → class ≡ b.class → u ≡ t
+      → (r : Ran) × StandsAs u code (Some r) x.standing × (r.ending ≡ Running) × IsFirst u.classes class r.state
+      × IsOfBehaviour u class (one_more u.classes r).state
+  advance-needs laws q x class u at on same class-is tree-is =
+      let r = run-told q at on in
+      let F : Tree → ℕ → Progress → Type 0 = λ u class x. (r : Ran) × StandsAs u code (Some r) x.standing × (r.ending ≡ Running)
+      × IsFirst u.classes class r.state × IsOfBehaviour u class (one_more u.classes r).state in
+      let here : F t b.class q = (
+        r.0,
+        (progress-told q r.0 at r.1).standing,
+        r.2,
+        (of-behaviour laws r.0 r.1).first,
+        then-of-behaviour laws q r.0 at r.1 r.2,
+      ) in
+      subst (λ z. F z class x) (sym tree-is) (subst (λ z. F t z x) (sym class-is) (subst (λ z. F t b.class z) (sym same) here))
 
   pub stepped-now : AllSeparate → PlansAreSettings → PlansAreGood → (q new : Progress) (r : Ran) (left : Option (List Slot)) (cs : List Content)
       → slice_get m.progress i ≡ Some q → get_or world.told.runs i None ≡ Some r → r.ending ≡ Running

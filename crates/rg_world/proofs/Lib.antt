@@ -8,3 +8,4 @@ mod Stepped
 mod Returned
 mod Opened
 mod Members
+mod First

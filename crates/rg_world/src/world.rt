@@ -96,7 +96,8 @@ impl World {
         match self.state(i) {
             Phase::Waiting => self.start(alloc, accepted, code, plan, i),
             Phase::Running => self.step(alloc, accepted, code, plan, i, count, trace),
-            Phase::Done | Phase::Trap { .. } => Ok(()),
+            Phase::Done => Ok(()),
+            Phase::Trap { .. } => Ok(()),
         }
     }
 

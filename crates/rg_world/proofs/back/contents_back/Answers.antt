@@ -31,7 +31,7 @@ loop-k-preserved c =
             place = rw w.field-is (next-place (fields_of t.classes c.args.class) n _ before rest first c.loop-k.invariant.place);
             so_far = λ code s of shows. rw (w.field-is, w.back-is) (elim w.if-is_iso.branch [
               | then-is_iso+in_ok-content-in-Field+in-Ok v ↦ rw v.back-is
-                  (back-iso t c.args.class s n _ before rest c.loop-k.back.items v.push.new.self.items v.in_ok-content-in-Field.content v.slot_of-slot.result
+                  (back-iso t c.args.class s n _ before rest c.loop-k.back.items v.push.new.self.items _ v.slot_of-slot.result
                   first (sym (v.if-is_iso.ensures tables))
                   (v.in_ok-content-in-Field.ensures t code s of.fit shows
                   (own-field t c.args.class s n _ rest of (c.loop-k.invariant.place ∙ first) (sym (v.if-is_iso.ensures tables))))

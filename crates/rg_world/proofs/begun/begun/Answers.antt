@@ -23,4 +23,8 @@ begin_behaviour-requires-clause-may c =
     c.requires.accepted c.requires.lowers c.requires.ready c.class-2.ensures c.method.ensures (given-are c)
 
 pub returns-clause-runs : goal.returns-clause-runs
-returns-clause-runs c = ?
+returns-clause-runs c =
+    begins-as (program_of c.args.book.now.program) c.args.code.now c.args.turn.now (contents_at c.args.slots.now c.args.turn.now.cowns) _
+    c.begin_behaviour.new.self c.requires.accepted c.requires.lowers c.requires.ready
+    (begins-same c.args.code.now c.args.turn.now _ c.as_slice.result.now c.class-2.result c.method.result _ c.begin_behaviour.new.self c.class-2.ensures
+    c.method.ensures (given-are (goal.at.returns-clause-runs c).After-as_slice) c.in_ok-begin_behaviour.ensures.begun)

@@ -1,7 +1,16 @@
+use Rattle.std.proofs.Common.{◌<◌, All, length, map, subst, sym, ap, ◌∙◌}
+use Rattle.rg_tree.specs.Rows.RowTrees.{classes_of, program_of}
+use Rattle.rg_names.specs.Book.{Known}
+use Rattle.rg_plan.specs.declared.cown.Cown.{Cown}
+use Rattle.rg_sched.specs.Contents.{Held}
+use Rattle.rg_sched.specs.Settings.{start_contents}
+use Rattle.rg_world.proofs.First.{cowns-there, begins-behind}
 use Rattle.rg_world.proofs.world.World.begin.Goals as goal
 
 pub open-requires : goal.open-requires
-open-requires c = ?
+open-requires c =
+    subst (λ (z : Known). All (λ (w : Cown). w.class < length (classes_of z.program)) c.args.plan.now.cowns) (sym c.book.ensures.is)
+    (cowns-there (program_of c.args.accepted.now.program) c.args.plan.now c.args.images.items c.requires c.plans_are_good.ensures)
 
 pub returns : goal.returns
-returns c = ?
+returns c = λ code lowers. ?
