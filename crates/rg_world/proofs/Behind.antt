@@ -225,6 +225,23 @@ module _ (t : Tree) (code : Code) (p : PlanOf) (images : List CargoList) (schedu
       by (Some back) is-left = is-left b.cowns m.contents
           ∙ ap (put b.cowns (left_by (fields_of t.classes b.class) (one_more t.classes r).state (one_more t.classes r).ending b.cowns)) h.shows.contents
 
+  pub stepped-by : AllSeparate → PlansAreSettings → PlansAreGood → RunsAreOfBehaviours → (q x new : Progress) (class : ℕ) (u : Tree)
+      (left : Option (List Slot)) (cs : List Content) → slice_get m.progress i ≡ Some q → runs_so q.standing ≡ true → x ≡ q → class ≡ b.class → u ≡ t
+      → ((r : Ran) (n : ℕ) → IsProgress u code (Some r) n x → r.ending ≡ Running → IsFirst u.classes class r.state
+      → IsOfBehaviour u class (one_more u.classes r).state → Leaves (fields_of u.classes class) (one_more u.classes r) left
+      × IsProgress u code (Some (one_more u.classes r)) (suc n) new)
+      → cs ≡ contents_with b.cowns left m.contents
+      → IsBehind t code p images (schedule ++ i ∷ []) (record { progress = set m.progress i new; contents = cs; began = m.began })
+  stepped-by separate settings plans laws q x new class u left cs at on same class-is tree-is does put-is =
+      let F : Tree → ℕ → Progress → Type 0 = λ u class x. (r : Ran) (n : ℕ) → IsProgress u code (Some r) n x → r.ending ≡ Running
+      → IsFirst u.classes class r.state → IsOfBehaviour u class (one_more u.classes r).state
+      → Leaves (fields_of u.classes class) (one_more u.classes r) left × IsProgress u code (Some (one_more u.classes r)) (suc n) new in
+      let here : F t b.class q = subst (λ z. F t b.class z) same (subst (λ z. F t z x) class-is (subst (λ z. F z class x) tree-is does)) in
+      let r = run-told q at on in
+      let did = here r.0 (slice_index world.turns i) (progress-told q r.0 at r.1) r.2 (of-behaviour laws r.0 r.1).first
+      (then-of-behaviour laws q r.0 at r.1 r.2) in
+      stepped-now separate settings plans q new r.0 left cs at r.1 r.2 did.0 did.1 put-is
+
   -- one that has ended
 
   pub ended-on : (q : Progress) → slice_get m.progress i ≡ Some q → is_ended q.standing ≡ true → IsBehind t code p images (schedule ++ i ∷ []) m

@@ -173,9 +173,10 @@ impl World {
             count,
             trace,
         )?;
-        if let Some(contents) = left {
-            self.slots.put(turn.cowns(), contents);
-        }
+        let Some(contents) = left else {
+            return Ok(());
+        };
+        self.slots.put(turn.cowns(), contents);
         Ok(())
     }
 
