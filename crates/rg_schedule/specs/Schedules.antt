@@ -7,9 +7,9 @@ use Rattle.rg_code.specs.Code.{Code}
 use Rattle.rg_cown.specs.Cargo.{CargoList}
 use Rattle.rg_input.specs.Numbers.{is_more}
 use Rattle.rg_plan.specs.Plans.{PlanOf}
-use Rattle.rg_world.specs.declared.limits.TheConstants.{SCHEDULE}
-use Rattle.rg_world.specs.declared.stop.SchedStop.{SchedStop}
-use Rattle.rg_world.specs.declared.stop.SchedStop.TheVariants as stop
+use Rattle.rg_schedule.specs.declared.limits.TheConstants.{SCHEDULE}
+use Rattle.rg_schedule.specs.declared.stop.SchedStop.{SchedStop}
+use Rattle.rg_schedule.specs.declared.stop.SchedStop.TheVariants as stop
 use Rattle.rg_world.specs.Worlds.{WorldIn, IsBehind}
 
 -- what an input says as a schedule

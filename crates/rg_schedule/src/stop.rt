@@ -19,7 +19,7 @@ pub enum SchedStop {
 }
 
 impl From<Memory> for SchedStop {
-    ghost use Rattle.rg_world.specs.declared.stop.SchedStop.{SchedStop};
+    ghost use Rattle.rg_schedule.specs.declared.stop.SchedStop.{SchedStop};
 
     ghost from_gives = { λ _ why. why ≡ SchedStop.Memory };
 
@@ -29,7 +29,7 @@ impl From<Memory> for SchedStop {
 }
 
 impl From<InputFault> for SchedStop {
-    ghost use Rattle.rg_world.specs.declared.stop.SchedStop.{SchedStop};
+    ghost use Rattle.rg_schedule.specs.declared.stop.SchedStop.{SchedStop};
 
     ghost from_gives = { λ _ why. why ≡ SchedStop.InputFault };
 
