@@ -48,7 +48,6 @@ in-place ns P all n h = by ns all h
 
 module _ (t : Tree) (code : Code) (p : PlanOf) (images : List CargoList) (schedule : List ℕ) (m : WorldIn) (h : IsBehind t code p images schedule m)
     (i : ℕ) (b : Behaviour) (there : slice_get p.behaviours i ≡ Some b) where
-
   abbrev pub setting : Setting
   setting = setting_of t.classes p images
 

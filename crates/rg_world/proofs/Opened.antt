@@ -73,7 +73,7 @@ may-start t code b gs given class method accepted lowers ready k n g = (
   t,
   ready.method,
   subst (λ z. Starts t code class method ready.method z) (sym g) (subst (λ z. Starts t code class z ready.method gs) (sym n)
-  (subst (λ z. Starts t code z b.method ready.method gs) (sym k) (starts t code b gs accepted lowers ready))),
+      (subst (λ z. Starts t code z b.method ready.method gs) (sym k) (starts t code b gs accepted lowers ready))),
 )
 
 pub begins-same : (code : Code) (b : Behaviour) (gs given : List Given) (class method : ℕ) (old new : Stepping) → class ≡ b.class → method ≡ b.method

@@ -98,9 +98,11 @@ content-is : (s : State) (n : ℕ) (o : Option CargoList) → IsContent s 0 n o
     → (v : Val) × (slice_get (values_of s) n ≡ Some v) × (content_of s v ≡ content_in (slot_of o))
 content-is s n None h =
     (Nil, subst (λ (x : Seen). slice_get x.fields n ≡ Some Nil) (sym (get_or_from_slice_get s.store 0 h.0 no_object h.1)) h.2, refl)
-content-is s n (Some c) h =
-    (Obj h.0, subst (λ (x : Seen). slice_get x.fields n ≡ Some (Obj h.0)) (sym (get_or_from_slice_get s.store 0 h.1.0 no_object h.1.1)) h.1.2,
-    ap Held (sym h.2))
+content-is s n (Some c) h = (
+  Obj h.0,
+  subst (λ (x : Seen). slice_get x.fields n ≡ Some (Obj h.0)) (sym (get_or_from_slice_get s.store 0 h.1.0 no_object h.1.1)) h.1.2,
+  ap Held (sym h.2),
+)
 
 pub back-iso : (t : Tree) (class : ℕ) (s : State) (n : ℕ) (f : Field) (before rest : List Field) (back new : List Slot) (o : Option CargoList) (x : Slot)
     → before ≡ f ∷ rest → is_iso_written f.ty ≡ true → IsContent s 0 n o → x ≡ slot_of o → new ≡ back ++ x ∷ []
