@@ -1,5 +1,5 @@
 use Rattle.std.proofs.Common.{refl, sym, ap, ◌∙◌, map}
-use Rattle.rg_tree.specs.Rows.RowTrees.{classes_of, program_of}
+use Rattle.rg_tree.specs.Rows.RowTrees.{program_of}
 use Rattle.rg_rules.specs.Types.{fields_of}
 use Rattle.rg_sched.specs.Contents.{put, left_by}
 use Rattle.rg_sched.specs.Events.{one_more}
