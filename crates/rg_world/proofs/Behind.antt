@@ -1,12 +1,12 @@
 -- The event of a number, on a world over machines.
-use Rattle.std.proofs.Common.{◌≡◌, ◌≢◌, ℕ, suc, ◌<◌, inl, inr, Bool, true, false, All, List, [], ◌∷◌, ◌++◌, length, get_or, set, map, Option, Some, None, slice_get}
+use Rattle.std.proofs.Common.{◌≡◌, ℕ, suc, ◌<◌, inl, inr, true, false, All, List, [], ◌∷◌, ◌++◌, length, get_or, set, map, Option, Some, None, slice_get}
 use Rattle.std.proofs.Common.{refl, sym, ap, ◌∙◌, subst, arith}
 use Rattle.std.specs.Prelude.{slice_index}
 use Rattle.std.proofs.lemmas.List.{length-set, get_or-set_same, get_or-set_other}
 use Rattle.std.proofs.lemmas.Option.{slice_get_within, get_or_from_slice_get}
 use Rattle.rg_tree.specs.Tree.{Tree}
 use Rattle.rg_rules.specs.Types.{fields_of}
-use Rattle.rg_rules.specs.Runs.{Running, Done, Stopped, Ran}
+use Rattle.rg_rules.specs.Runs.{Running, Ran}
 use Rattle.rg_code.specs.Code.{Code}
 use Rattle.rg_cown.specs.Cargo.{CargoList}
 use Rattle.rg_contents.specs.Laws.{IsReached, BeginningIsAllowed, RunsAreOfBehaviours}
@@ -15,15 +15,14 @@ use Rattle.rg_first.specs.First.{IsFirst, IsOfBehaviour}
 use Rattle.rg_plan.specs.Laws.{IsGoodTurn, PlansAreGood}
 use Rattle.rg_plan.specs.Plans.{Turn as Behaviour, PlanOf}
 use Rattle.rg_sched.specs.Numbers.{In, Distinct}
-use Rattle.rg_sched.specs.Contents.{Content, Away, Empty, contents_at, givens, put, left_by}
-use Rattle.rg_sched.specs.Behaviours.{run_of, cowns_in, cowns_of}
+use Rattle.rg_sched.specs.Contents.{Content, Away, contents_at, givens, put, left_by}
+use Rattle.rg_sched.specs.Behaviours.{run_of, cowns_in}
 use Rattle.rg_sched.specs.Phases.{printed_by}
 use Rattle.rg_sched.specs.Settings.{Setting, setting_of}
 use Rattle.rg_sched.specs.Atomic.{World, tell}
-use Rattle.rg_sched.specs.Events.{may_begin, begins, one_more, steps_on, event, first_world, world_after}
-use Rattle.rg_sched.specs.Laws.{PlansAreSettings, AllSeparate, Separate}
+use Rattle.rg_sched.specs.Events.{one_more, steps_on, event, first_world, world_after}
+use Rattle.rg_sched.specs.Laws.{PlansAreSettings, AllSeparate}
 use Rattle.rg_slots.specs.declared.slot.Slot.{Slot}
-use Rattle.rg_slots.specs.Slots.{content_in}
 use Rattle.rg_step.specs.Stepping.{Stepping}
 use Rattle.rg_world.specs.declared.progress.Progress.{Progress}
 use Rattle.rg_world.specs.declared.progress.Standing.{Standing}
@@ -31,7 +30,6 @@ use Rattle.rg_world.specs.declared.progress.Standing.TheVariants as stands
 use Rattle.rg_world.specs.Standing.{RunsAs, StandsAs, IsProgress}
 use Rattle.rg_world.specs.Worlds.{WorldIn, Shows, IsBehind}
 use Rattle.rg_world.specs.Inner.Steps.{all_lower, is_ended, runs_so, contents_with, Leaves}
-use Rattle.rg_world.proofs.Lists.{get-same}
 use Rattle.rg_world.proofs.Events.{after-push, waits, goes, done-stays, stopped-stays, contents-length, runs-length, start-length, put-away}
 use Rattle.rg_world.proofs.Shown.{told-again, runs-as, lower-same}
 
@@ -48,7 +46,6 @@ in-place ns P all n h = by ns all h
 
 module _ (t : Tree) (code : Code) (p : PlanOf) (images : List CargoList) (schedule : List ℕ) (m : WorldIn) (h : IsBehind t code p images schedule m)
     (i : ℕ) (b : Behaviour) (there : slice_get p.behaviours i ≡ Some b) where
-
   abbrev pub setting : Setting
   setting = setting_of t.classes p images
 

@@ -1,5 +1,5 @@
 -- A step of a state without input leaves no input.
-use Rattle.std.proofs.Common.{◌≡◌, ℕ, Bool, true, false, List, [], ◌∷◌, Option, Some, None, slice_get, slice_set, Result, Ok, refl, sym, ap, ◌∙◌, arith}
+use Rattle.std.proofs.Common.{◌≡◌, ℕ, true, List, [], ◌∷◌, Option, Some, None, slice_get, slice_set, Result, Ok, refl, sym, ap, ◌∙◌}
 use Rattle.rg_base.specs.declared.object.Seen.{Seen}
 use Rattle.rg_base.specs.declared.outcome.Trap.{Trap}
 use Rattle.rg_base.specs.declared.value.Val.{Val}
@@ -7,14 +7,13 @@ use Rattle.rg_base.specs.declared.value.Val.TheVariants.{Nil, Int, Bool as Truth
 use Rattle.rg_base.specs.Input.{NextNumber, found, malformed, at_end, next_number}
 use Rattle.rg_tree.specs.Tree.{Name, Variable, Path, Expr, Right, value, new, new_tmp, new_iso, freeze, merge, read, more, result_of, stmt, StmtKind}
 use Rattle.rg_tree.specs.Tree.{declare, assign, assign_element, call, swap, branch, while, enter, print, collect, return, Class}
-use Rattle.rg_rules.specs.Answers.{◌>>=◌, ◌>>◌}
 use Rattle.rg_rules.specs.Types.{type_of}
 use Rattle.rg_rules.specs.Paths.{all_but_last, last_field}
 use Rattle.rg_rules.specs.Items.{Item, Do, EndAt, LeaveAt, LeaveGiving, Back}
 use Rattle.rg_rules.specs.State.{Target, Declares, Assigns, Drops, State, locals_of, value_in, put_local, add_local}
 use Rattle.rg_rules.specs.Evaluation.{object_at, path_value, value_of, with_field, element_place, with_element, follow_fields}
 use Rattle.rg_rules.specs.RightSides.{Use, taken, is_left, with_right}
-use Rattle.rg_rules.specs.Steps.{put_field, put_element, step_assign, step_assign_element, step_kind, step_item, step_first, stepped, Stepped, Went}
+use Rattle.rg_rules.specs.Steps.{put_field, put_element, step_assign, step_assign_element, step_kind, step_first, Went}
 use Rattle.rg_rules.specs.Steps.{next}
 use Rattle.rg_rules.specs.Outside.Inputs.{asks, kind_asks, first_asks}
 use Rattle.rg_rules.proofs.Answers.{bind-ok, then-ok}

@@ -1,6 +1,6 @@
 -- What the event of a number does to a world, and how many cowns it has.
-use Rattle.std.proofs.Common.{◌≡◌, ℕ, zero, suc, ◌<◌, ◌≤◌, ◌⊎◌, inl, inr, Bool, true, false, List, [], ◌∷◌, ◌++◌, length, get_or, set, map, Option, Some}
-use Rattle.std.proofs.Common.{None, slice_get, refl, sym, ap, ◌∙◌, subst, arith}
+use Rattle.std.proofs.Common.{◌≡◌, ℕ, suc, ◌<◌, ◌≤◌, ◌⊎◌, inl, inr, Bool, true, false, List, [], ◌∷◌, ◌++◌, length, get_or, set, map, Option, Some}
+use Rattle.std.proofs.Common.{None, slice_get, refl, sym, ap, ◌∙◌, arith}
 use Rattle.std.specs.Prelude.{if◌then◌else◌}
 use Rattle.std.proofs.lemmas.List.{length-set, length-map, length-replicate, set-get_or}
 use Rattle.rg_tree.specs.Tree.{Class}
@@ -10,7 +10,7 @@ use Rattle.rg_plan.specs.Plans.{Turn as Behaviour, PlanOf}
 use Rattle.rg_plan.specs.declared.cown.Cown.{Cown}
 use Rattle.rg_sched.specs.Numbers.{In}
 use Rattle.rg_sched.specs.Contents.{Content, Away, Empty, Held, rest_of, first_of, put}
-use Rattle.rg_sched.specs.Settings.{Setting, start_contents, start_of, setting_of}
+use Rattle.rg_sched.specs.Settings.{Setting, start_contents, setting_of}
 use Rattle.rg_sched.specs.Atomic.{World}
 use Rattle.rg_sched.specs.Events.{may_begin, begins, steps_on, event_by, event_of, event, after, first_world, world_after}
 use Rattle.rg_world.proofs.Lists.{set-past, within_or_past}

@@ -11,7 +11,7 @@ use Rattle.rg_code.specs.Code.{Code}
 use Rattle.rg_code.specs.Lowering.{Lowers}
 use Rattle.rg_cown.specs.Cargo.{CargoList}
 use Rattle.rg_plan.specs.declared.cown.Cown.{Cown}
-use Rattle.rg_plan.specs.Laws.{IsGoodCown, PlansAreGood}
+use Rattle.rg_plan.specs.Laws.{PlansAreGood}
 use Rattle.rg_plan.specs.Plans.{PlanOf}
 use Rattle.rg_sched.specs.Contents.{Content, Held}
 use Rattle.rg_sched.specs.Phases.{printed_by}

@@ -1,8 +1,7 @@
 -- A behaviour that begins.
-use Rattle.std.proofs.Common.{◌≡◌, ℕ, List, [], ◌∷◌, Some, slice_get, refl, sym, ap, ◌∙◌, subst}
+use Rattle.std.proofs.Common.{◌≡◌, ℕ, List, [], ◌∷◌, refl, sym, ap, ◌∙◌, subst}
 use Rattle.std.proofs.lemmas.Option.{get_or_from_slice_get}
 use Rattle.std.specs.Prelude.{slice_index_or}
-use Rattle.rg_base.specs.declared.value.Val.{Val}
 use Rattle.rg_tree.specs.Tree.{Block, empty as none, then as next, Method, Class, Tree}
 use Rattle.rg_rules.specs.Acceptance.{Accepted}
 use Rattle.rg_rules.specs.Items.{EndAt, Back, items_of}
@@ -10,7 +9,6 @@ use Rattle.rg_rules.specs.Runs.{Running, Ran, ending_of, plain_from}
 use Rattle.rg_rules.specs.Types.{fields_of}
 use Rattle.rg_code.specs.Code.{Code}
 use Rattle.rg_code.specs.Lowering.{Lowers}
-use Rattle.rg_machine.specs.Parts.{machine_in}
 use Rattle.rg_plain.specs.Outcomes.{EndsMain}
 use Rattle.rg_opening.specs.declared.given.Given.{Given}
 use Rattle.rg_opening.specs.Opening.{opening_of}
@@ -21,7 +19,6 @@ use Rattle.rg_sched.specs.Behaviours.{all_methods, idle, run_of}
 use Rattle.rg_sched.specs.Contents.{Content, givens}
 use Rattle.rg_step.specs.Begins.{Begins}
 use Rattle.rg_step.specs.Stepping.{Stepping}
-use Rattle.rg_step.specs.Steps.{Runs}
 use Rattle.rg_world.specs.Standing.{RunsAs}
 
 -- the run of a behaviour that begins with a method
@@ -73,7 +70,7 @@ may-start t code b gs given class method accepted lowers ready k n g = (
   t,
   ready.method,
   subst (λ z. Starts t code class method ready.method z) (sym g) (subst (λ z. Starts t code class z ready.method gs) (sym n)
-  (subst (λ z. Starts t code z b.method ready.method gs) (sym k) (starts t code b gs accepted lowers ready))),
+      (subst (λ z. Starts t code z b.method ready.method gs) (sym k) (starts t code b gs accepted lowers ready))),
 )
 
 pub begins-same : (code : Code) (b : Behaviour) (gs given : List Given) (class method : ℕ) (old new : Stepping) → class ≡ b.class → method ≡ b.method

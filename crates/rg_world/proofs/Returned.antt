@@ -1,5 +1,5 @@
 -- What a behaviour that is done gives back, field by field.
-use Rattle.std.proofs.Common.{◌≡◌, ℕ, zero, suc, ◌+◌, ◌<◌, Bool, true, false, List, [], ◌∷◌, ◌++◌, length, map, drop, get_or, Option, Some, None, slice_get}
+use Rattle.std.proofs.Common.{◌≡◌, ℕ, zero, suc, ◌+◌, true, false, List, [], ◌∷◌, ◌++◌, map, drop, get_or, Option, Some, None, slice_get}
 use Rattle.std.proofs.Common.{append_assoc, refl, sym, ap, ◌∙◌, subst, arith}
 use Rattle.std.proofs.lemmas.List.{map-append}
 use Rattle.std.proofs.lemmas.Option.{get_or_from_slice_get}
@@ -14,10 +14,10 @@ use Rattle.rg_rules.specs.Headers.{is_iso_written}
 use Rattle.rg_rules.specs.State.{State}
 use Rattle.rg_rules.specs.Types.{type_of, fields_of, class_number}
 use Rattle.rg_cown.specs.Cargo.{CargoList}
-use Rattle.rg_cown.specs.Contents.{no_object, cargo_of}
-use Rattle.rg_content.specs.Fields.{Holds, IsContent, IsOwnField}
-use Rattle.rg_first.specs.First.{IsFirst, IsOfBehaviour}
-use Rattle.rg_sched.specs.Contents.{Content, Empty, Held, content_of, goes_back, iso_values, onto_if}
+use Rattle.rg_cown.specs.Contents.{no_object}
+use Rattle.rg_content.specs.Fields.{IsContent, IsOwnField}
+use Rattle.rg_first.specs.First.{IsOfBehaviour}
+use Rattle.rg_sched.specs.Contents.{Held, content_of, goes_back, iso_values, onto_if}
 use Rattle.rg_slots.specs.declared.slot.Slot.{Slot}
 use Rattle.rg_slots.specs.Slots.{content_in}
 use Rattle.rg_world.specs.Inner.Steps.{slot_of}
@@ -98,9 +98,11 @@ content-is : (s : State) (n : ℕ) (o : Option CargoList) → IsContent s 0 n o
     → (v : Val) × (slice_get (values_of s) n ≡ Some v) × (content_of s v ≡ content_in (slot_of o))
 content-is s n None h =
     (Nil, subst (λ (x : Seen). slice_get x.fields n ≡ Some Nil) (sym (get_or_from_slice_get s.store 0 h.0 no_object h.1)) h.2, refl)
-content-is s n (Some c) h =
-    (Obj h.0, subst (λ (x : Seen). slice_get x.fields n ≡ Some (Obj h.0)) (sym (get_or_from_slice_get s.store 0 h.1.0 no_object h.1.1)) h.1.2,
-    ap Held (sym h.2))
+content-is s n (Some c) h = (
+  Obj h.0,
+  subst (λ (x : Seen). slice_get x.fields n ≡ Some (Obj h.0)) (sym (get_or_from_slice_get s.store 0 h.1.0 no_object h.1.1)) h.1.2,
+  ap Held (sym h.2),
+)
 
 pub back-iso : (t : Tree) (class : ℕ) (s : State) (n : ℕ) (f : Field) (before rest : List Field) (back new : List Slot) (o : Option CargoList) (x : Slot)
     → before ≡ f ∷ rest → is_iso_written f.ty ≡ true → IsContent s 0 n o → x ≡ slot_of o → new ≡ back ++ x ∷ []

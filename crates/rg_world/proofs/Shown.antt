@@ -1,13 +1,13 @@
 -- What a world shows behind a run of one behaviour that is told anew.
-use Rattle.std.proofs.Common.{◌≡◌, ◌≢◌, ℕ, zero, suc, ◌<◌, ◌⊎◌, inl, inr, Bool, true, false, List, [], ◌∷◌, length, get_or, set, Option, Some, None, slice_get, unwrap_or, option_map}
+use Rattle.std.proofs.Common.{◌≡◌, ◌≢◌, ℕ, zero, suc, ◌<◌, ◌⊎◌, inl, inr, true, List, [], ◌∷◌, length, get_or, set, Option, Some, None, slice_get, unwrap_or, option_map}
 use Rattle.std.proofs.Common.{refl, sym, ap, ◌∙◌, subst, arith}
 use Rattle.std.specs.Prelude.{slice_index, not, ◌||◌}
-use Rattle.std.specs.List.{list_all, range_with_len}
+use Rattle.std.specs.List.{range_with_len}
 use Rattle.std.proofs.lemmas.List.{length-set, get_or-set_same, get_or-set_other}
-use Rattle.std.proofs.lemmas.Option.{slice_get_within, get_or_from_slice_get}
+use Rattle.std.proofs.lemmas.Option.{slice_get_within}
 use Rattle.rg_tree.specs.Tree.{Tree}
 use Rattle.rg_rules.specs.Types.{fields_of}
-use Rattle.rg_rules.specs.Runs.{Running, Done, Stopped, Ran}
+use Rattle.rg_rules.specs.Runs.{Running, Ran}
 use Rattle.rg_code.specs.Code.{Code}
 use Rattle.rg_plan.specs.Plans.{Turn as Behaviour}
 use Rattle.rg_sched.specs.Contents.{Content, put, left_by}

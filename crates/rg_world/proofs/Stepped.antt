@@ -1,18 +1,17 @@
 -- What a step of the machine of a behaviour says of its run.
-use Rattle.std.proofs.Common.{◌≡◌, ℕ, ◌+◌, ◌<◌, ◌⊎◌, inl, inr, Bool, true, false, List, [], ◌∷◌, ◌++◌, Option, Some, None, refl, sym, ap, ◌∙◌, subst, arith}
-use Rattle.std.proofs.Common.{slice_get}
+use Rattle.std.proofs.Common.{◌≡◌, ℕ, ◌+◌, ◌⊎◌, inl, inr, Bool, true, false, List, [], ◌∷◌, ◌++◌, Some, refl, sym, ap, ◌∙◌, subst, arith}
 use Rattle.rg_base.specs.declared.outcome.Outcome.{Outcome}
 use Rattle.rg_base.specs.declared.outcome.Outcome.TheVariants as outcome
 use Rattle.rg_base.specs.declared.outcome.Trap.{Trap}
 use Rattle.rg_base.specs.declared.value.Val.{Val}
-use Rattle.rg_io.specs.Content.{Gives, Rose}
-use Rattle.rg_input.specs.Numbers.{Pending, CanCome, OnInput}
-use Rattle.rg_tree.specs.Tree.{Block, empty as none, then as next_of, Method, Tree}
-use Rattle.rg_rules.specs.Items.{Item, EndAt, Back, items_of}
+use Rattle.rg_io.specs.Content.{Rose}
+use Rattle.rg_input.specs.Numbers.{Pending, OnInput}
+use Rattle.rg_tree.specs.Tree.{Tree}
+use Rattle.rg_rules.specs.Items.{Item}
 use Rattle.rg_rules.specs.Outside.Inputs.{first_asks}
-use Rattle.rg_rules.specs.Runs.{Running, Done, Stopped, Ran, Ending, ending_of, plain_from}
+use Rattle.rg_rules.specs.Runs.{Running, Done, Stopped, Ran, ending_of}
 use Rattle.rg_rules.specs.State.{State}
-use Rattle.rg_rules.specs.Steps.{Stepped as Plain, Went, Trapped, next}
+use Rattle.rg_rules.specs.Steps.{Went, Trapped, next}
 use Rattle.rg_rules.proofs.Run.{one_more-went, one_more-trapped}
 use Rattle.rg_sound.proofs.Law.{step-keeps}
 use Rattle.rg_first.specs.First.{IsFirst}
@@ -20,14 +19,14 @@ use Rattle.rg_code.specs.Code.{Code}
 use Rattle.rg_stack.specs.Left.{NoneLeft, SomeLeft}
 use Rattle.rg_held.specs.Shown.{ShowsHeld}
 use Rattle.rg_machine.specs.Parts.{machine_in}
-use Rattle.rg_plain.specs.Outcomes.{EndsMain, Settles as Settled}
+use Rattle.rg_plain.specs.Outcomes.{EndsMain}
 use Rattle.rg_plain.proofs.Behind.{settles_by, ends_by}
 use Rattle.rg_sched.specs.Events.{one_more}
 use Rattle.rg_step.specs.Behaviours.{HoldsFirst}
 use Rattle.rg_step.specs.Sound.{IsSound}
 use Rattle.rg_step.specs.States.{OneStep, Standing}
 use Rattle.rg_step.specs.Stepping.{Stepping}
-use Rattle.rg_step.specs.Steps.{Runs, Settles, UnlessAsking}
+use Rattle.rg_step.specs.Steps.{Settles, UnlessAsking}
 use Rattle.rg_lasting.specs.Lasting.{FirstLasts}
 use Rattle.rg_world.specs.Standing.{RunsAs}
 use Rattle.rg_world.specs.Inner.Steps.{EndsAs, Tells}

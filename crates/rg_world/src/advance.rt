@@ -117,7 +117,15 @@ pub(crate) fn advance(
     if progress.turns == u64::MAX {
         return Err(Memory);
     }
-    let stepped = step_on(&mut progress.standing, alloc, book, class, code, count, trace)?;
+    let stepped = step_on(
+        &mut progress.standing,
+        alloc,
+        book,
+        class,
+        code,
+        count,
+        trace,
+    )?;
     progress.turns += 1;
     match stepped {
         Stepped::On => Ok(None),

@@ -1,14 +1,11 @@
 -- What a step of a behaviour leaves (docs/architecture.md, "Worlds").
-use Rattle.std.specs.Prelude.{◌≡◌, ℕ, ◌||◌, not, suc, Bool as Truth, true, false, List, [], ◌∷◌, ◌++◌, length, map, Option, Some, None, slice_get, IfOk}
-use Rattle.std.specs.Prelude.{Result}
+use Rattle.std.specs.Prelude.{◌≡◌, ℕ, ◌||◌, not, Bool as Truth, true, false, List, [], ◌∷◌, ◌++◌, map, Option, Some, None, slice_get}
 use Rattle.std.specs.List.{list_all, range_with_len}
 use Rattle.rg_base.specs.declared.value.Val.{Val}
 use Rattle.rg_base.specs.declared.outcome.Outcome.{Outcome}
 use Rattle.rg_base.specs.declared.outcome.Outcome.TheVariants as outcome
 use Rattle.rg_tree.specs.Tree.{Field, Tree}
-use Rattle.rg_rules.specs.Types.{fields_of}
 use Rattle.rg_rules.specs.Runs.{Running, Done, Stopped, Ran}
-use Rattle.rg_rules.specs.State.{State}
 use Rattle.rg_code.specs.Code.{Code}
 use Rattle.rg_held.specs.Shown.{ShowsHeld}
 use Rattle.rg_machine.specs.Parts.{machine_in}
@@ -26,7 +23,7 @@ use Rattle.rg_world.specs.declared.progress.Standing.{Standing}
 use Rattle.rg_world.specs.declared.progress.Standing.TheVariants as stands
 use Rattle.rg_world.specs.declared.advance.Stepped.{Stepped}
 use Rattle.rg_world.specs.declared.advance.Stepped.TheVariants as stepped
-use Rattle.rg_world.specs.Standing.{RunsAs, StandsAs, IsProgress}
+use Rattle.rg_world.specs.Standing.{RunsAs, StandsAs}
 
 -- the machine of a behaviour whose run has ended shows its last state
 pub record EndsAs (t : Tree) (code : Code) (r : Ran) (s : Stepping) : Type 0 where

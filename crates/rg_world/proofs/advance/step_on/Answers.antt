@@ -1,5 +1,5 @@
 use Rattle.std.proofs.Common.{refl, sym, ap, ◌∙◌, map}
-use Rattle.rg_tree.specs.Rows.RowTrees.{classes_of, program_of}
+use Rattle.rg_tree.specs.Rows.RowTrees.{program_of}
 use Rattle.rg_rules.specs.Types.{fields_of}
 use Rattle.rg_sched.specs.Contents.{put, left_by}
 use Rattle.rg_sched.specs.Events.{one_more}
@@ -53,8 +53,7 @@ returns-in_ok-back-in-Done g c = λ r stands on first next.
     let told = c.in-Done.ensures t r c.args.class
     (runs-of t c.args.code.now r c.args.standing.now c.in-Running.stepper stands c.in-Running.is) first in
     let fields = fields_of t.classes c.args.class in
-    let then = one_more t.classes r in
-    (
+    let then = one_more t.classes r in (
       (then, refl, told.0.ending),
       λ ns cs. ap (λ z. put ns z cs) (c.in_ok-back-in-Done.ensures c.args.code.now then.state next told.0.shows
           ∙ ap (λ e. left_by fields then.state e ns) (sym told.0.ending)),
@@ -67,8 +66,7 @@ returns-in-Trap g c = λ r stands on first next.
     let told = c.in-Trap.ensures t r c.args.class
     (runs-of t c.args.code.now r c.args.standing.now c.in-Running.stepper stands c.in-Running.is) first in
     let fields = fields_of t.classes c.args.class in
-    let then = one_more t.classes r in
-    (
+    let then = one_more t.classes r in (
       (then, refl, told.0),
       λ ns cs. ap (λ z. put ns (map content_in z) cs) c.new.ensures.items ∙ put-none ns cs
           ∙ ap (λ e. put ns (left_by fields then.state e ns) cs) (sym told.0),

@@ -1,6 +1,5 @@
-use Rattle.std.proofs.Common.{◌≡◌, ◌∙◌, ◌+◌, ◌∷◌, ap, sym, subst, map, drop, filter_map}
-use Rattle.rg_tree.specs.Tree.{Field}
-use Rattle.rg_tree.specs.Rows.RowTrees.{classes_of, member_at, program_of}
+use Rattle.std.proofs.Common.{◌∙◌, ◌+◌, ap, sym, subst, map, drop, filter_map}
+use Rattle.rg_tree.specs.Rows.RowTrees.{member_at, program_of}
 use Rattle.rg_rules.specs.Types.{fields_of, field_member}
 use Rattle.rg_world.proofs.Members.{members-field, members-method, members-end}
 use Rattle.rg_world.proofs.Returned.{GoesBack, own-field, back-iso, back-other, back-end, next-place}

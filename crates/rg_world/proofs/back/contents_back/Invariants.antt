@@ -1,5 +1,5 @@
 use Rattle.std.proofs.Common.{◌≡◌, drop, filter_map, map}
-use Rattle.rg_tree.specs.Rows.RowTrees.{classes_of, member_at, program_of}
+use Rattle.rg_tree.specs.Rows.RowTrees.{member_at, program_of}
 use Rattle.rg_rules.specs.State.{State}
 use Rattle.rg_rules.specs.Types.{fields_of, field_member}
 use Rattle.rg_code.specs.Code.{Code}

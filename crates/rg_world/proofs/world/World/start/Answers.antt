@@ -1,4 +1,4 @@
-use Rattle.std.proofs.Common.{◌≡◌, ◌++◌, ◌∷◌, [], true, set, slice_get, arith, ◌<◌, All, length, subst, sym, ap, ◌∙◌}
+use Rattle.std.proofs.Common.{◌≡◌, ◌++◌, ◌∷◌, [], true, set, slice_get, arith, ◌<◌, All, length, subst, sym, ◌∙◌}
 use Rattle.rg_tree.specs.Rows.RowTrees.{classes_of, program_of}
 use Rattle.rg_names.specs.Book.{Known}
 use Rattle.rg_rules.specs.Types.{fields_of}

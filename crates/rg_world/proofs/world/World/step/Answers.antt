@@ -1,6 +1,6 @@
 use Rattle.std.specs.Prelude.{Vec}
 use Rattle.std.specs.declared.alloc.Global.{Global}
-use Rattle.std.proofs.Common.{List, Option, option_map, map, ◌≡◌, ◌<◌, All, length, set, slice_get, true, arith, subst, sym, ap, ◌∙◌}
+use Rattle.std.proofs.Common.{List, Option, option_map, map, ◌≡◌, ◌<◌, All, length, slice_get, true, arith, subst, sym, ap, ◌∙◌}
 use Rattle.std.proofs.lemmas.Option.{get_or_from_slice_get}
 use Rattle.rg_tree.specs.Rows.RowTrees.{classes_of, program_of}
 use Rattle.rg_names.specs.Book.{Known}
