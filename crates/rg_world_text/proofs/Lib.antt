@@ -1,2 +1,0 @@
--- Lemmas on the text of a world.
-mod Lines

@@ -1,2 +1,0 @@
--- The text of a world (docs/architecture.md, "Worlds").
-pub mod Text
