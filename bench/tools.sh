@@ -126,6 +126,28 @@ else
   echo "left out: heap ($REGGIO_WATCH isn't built)"
 fi
 
+image=$here/tools/image
+one='RGI1\001\0\0\0\0\0\0\0\001\0\0\0\0\0\0\0\0\001\0\0\0\0\0\0\0\0\0\0\0\0\0'
+one+='\0\0\0\0\0\0\0\001\001\0\0\0\0\0\0\0\002'
+printf "$one" >one.image
+printf 'RGI1\0' >nothing.image
+printf 'RGI1\001\377\377\377\377\377\377\377\377' >count.image
+head -c 51 one.image >cut.image
+cat one.image nothing.image >more.image
+expect 'image: no file' 2 '' 'usage: tools/image *' "$image"
+expect 'image: an option that is none' 2 '' 'usage: tools/image *' "$image one.image --what"
+expect 'image: a missing file' 1 '' 'image: missing: No such file or directory' "$image missing"
+expect 'image: a folder' 1 '' 'image: folder: Is a directory' "$image folder"
+expect 'image: an empty file' 1 '' 'image: empty.rg: no image: the bytes end at 0*' "$image empty.rg"
+expect 'image: noise' 1 '' "image: noise.rg: no image: the first four bytes aren't RGI1" "$image noise.rg"
+expect 'image: a number that is cut off' 1 '' 'image: cut.image: no image: the bytes end at 51, within a number at byte 44' "$image cut.image"
+expect 'image: bytes behind it' 1 '' 'image: more.image: no image: the image ends in front of byte 52*' "$image more.image"
+expect 'image: a count of more than is there' 1 '' 'image: count.image: no image: the count at byte 5*' "$image count.image"
+expect 'image: nothing' 0 'nothing*' '' "$image nothing.image"
+expect 'image: one object' 0 'region 0 arena*object 0 class 0 in region 0: 0 = 2*' '' "$image one.image"
+expect 'image: one object, drawn' 0 '<svg*region 0, arena*</svg>' '' "$image one.image --draw"
+expect 'image: a program without classes' 1 '' '*the program has 0 classes' "$image one.image --program empty.rg"
+
 # A copy of what stands here, without a program.
 mkdir copy && (cd "$here" && tar cf - --exclude=./bin --exclude=./.git --exclude=out .) | tar xf - -C copy
 expect 'explain: no program and no rt' 127 '' "*isn't on the PATH*" "unset REGGIO; PATH=/usr/bin:/bin copy/tools/explain fault.rg"

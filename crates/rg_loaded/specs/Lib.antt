@@ -1,0 +1,2 @@
+-- What holds of a content that was loaded (docs/architecture.md, "Cargo").
+pub mod Back

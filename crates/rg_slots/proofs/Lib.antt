@@ -1,0 +1,3 @@
+-- Lemmas on what cowns have.
+mod Taken
+mod ByFields

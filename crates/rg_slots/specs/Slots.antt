@@ -1,0 +1,19 @@
+-- What cowns have, as schedules speak of it (docs/architecture.md, "Worlds").
+use Rattle.std.specs.Prelude.{Option, Some, None}
+use Rattle.rg_base.specs.declared.value.Val.TheVariants.{Nil}
+use Rattle.rg_opening.specs.declared.given.Given.{Given}
+use Rattle.rg_opening.specs.declared.given.Given.TheVariants as given
+use Rattle.rg_sched.specs.Contents.{Content, Away, Empty, Held, given_of}
+use Rattle.rg_slots.specs.declared.slot.Slot.{Slot}
+use Rattle.rg_slots.specs.declared.slot.Slot.TheVariants as slot
+
+-- what a cown has
+abbrev pub content_in : Slot → Content
+content_in slot.Away = Away
+content_in slot.Empty = Empty
+content_in (slot.Held c) = Held c
+
+-- with what an `iso` field begins that takes a content, if there is one
+abbrev pub first_given : Option Slot → Given
+first_given None = given.Start Nil
+first_given (Some s) = given_of (content_in s)
