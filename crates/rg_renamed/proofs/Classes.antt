@@ -130,6 +130,35 @@ methods-again cs c = ap (λ (o : Option Class). filter_map method_member (member
 pub classes-long : (cs : List Class) → length (renamed_classes cs) ≡ length cs
 classes-long cs = from-long (renamed_class cs) 0 cs
 
+-- Numbers through a program
+
+pub among-is : (ms : List Member) → methods_among ms ≡ filter_map method_member ms
+among-is [] = refl
+among-is (field f ∷ ms) = among-is ms
+among-is (method m ∷ ms) = ap (λ (qs : List Method). m ∷ qs) (among-is ms)
+
+pub among-long : (cs : List Class) (c : ℕ) (ms : List Member) → length (methods_among (renamed_members cs c ms)) ≡ length (methods_among ms)
+among-long cs c ms =
+    ap (λ (qs : List Method). length qs) (among-is (renamed_members cs c ms) ∙ member-methods cs c ms)
+    ∙ from-long (renamed_method cs c) 0 (filter_map method_member ms)
+    ∙ sym (ap (λ (qs : List Method). length qs) (among-is ms))
+
+-- the number of a method that was found
+abbrev called_number : ℕ → Option Method → ℕ
+called_number n o = elim o [ None ↦ 0 | Some m ↦ n ]
+
+numbers-from : (cs ds : List Class) (j c k : ℕ) (x : Name) (p : ℕ) → k ≡ j + c →
+    ((d : Class) → slice_get ds c ≡ Some d →
+    method_place (methods_among (renamed_members cs k d.members)) (method_name p) ≡ method_place (methods_among d.members) x) →
+    method_number (renamed_from (renamed_class cs) j ds) c (method_name p) ≡ method_number ds c x
+numbers-from cs [] j c k x p e h = refl
+numbers-from cs (d ∷ ds) j zero k x p e h =
+    let same : j ≡ k = omega (arith, e) in
+    ap (λ (i : ℕ). method_place (methods_among (renamed_members cs i d.members)) (method_name p)) same ∙ h d refl
+numbers-from cs (d ∷ ds) j (suc c) k x p e h =
+    ap (λ (n : ℕ). n + method_number (renamed_from (renamed_class cs) (suc j) ds) c (method_name p)) (among-long cs j d.members)
+    ∙ ap (λ (n : ℕ). length (methods_among d.members) + n) (numbers-from cs ds (suc j) c k x p (omega (arith, e)) h)
+
 below-more : (n m : ℕ) → m ≡ n → n < 2 ^ 64 → 0 + m < 2 ^ 64
 below-more n m e h = omega (arith, e, h)
 
@@ -271,3 +300,30 @@ module _ (cs : List Class) (few : AreFew cs) where
       ap (λ (qs : List Method). find (λ (q : Method). bytes_eq q.name (method_name p)) qs) (methods-again cs c)
       ∙ find-named (λ (q : Method). q.name) method_name methods-apart ms' 0 p p names (none-behind p) (omega (arith, in')) few'
       ∙ from-at (renamed_method cs c) ms 0 p p (none-behind p) ∙ ap (option_map (renamed_method cs c p)) there
+
+  -- The number of a method through the program
+
+  pub called-again : (c : ℕ) (x : Name) (m : Method) → method_named cs c x ≡ Some m →
+      number_called again c (method_name (method_place (methods_of cs c) x)) ≡ number_called cs c x
+  called-again c x m h =
+      let p = method_place (methods_of cs c) x in
+      ap (called_number (method_number again c (method_name p))) (method-again c x m h)
+      ∙ numbers-from cs cs 0 c c x p (none-behind c) (λ d e. by d e)
+      ∙ sym (ap (called_number (method_number cs c x)) h)
+    where
+      by : (d : Class) → slice_get cs c ≡ Some d →
+          method_place (methods_among (renamed_members cs c d.members)) (method_name (method_place (methods_of cs c) x))
+          ≡ method_place (methods_among d.members) x
+      by d e =
+          let ms = methods_of cs c in
+          let p = method_place ms x in
+          let own : ms ≡ filter_map method_member d.members = ap (λ (o : Option Class). filter_map method_member (members_of o)) e in
+          let ms' = renamed_from (renamed_method cs c) 0 ms in
+          let within : p < length ms = slice_get_within ms p m (placed-method ms x m h) in
+          let long : length ms' ≡ length ms = from-long (renamed_method cs c) 0 ms in
+          ap (λ (qs : List Method). method_place qs (method_name p)) (among-is (renamed_members cs c d.members))
+          ∙ ap (λ (qs : List Method). method_place qs (method_name p)) (member-methods cs c d.members)
+          ∙ ap (λ (qs : List Method). method_place (renamed_from (renamed_method cs c) 0 qs) (method_name p)) (sym own)
+          ∙ method-named ms' 0 p p (from-named (renamed_method cs c) (λ (q : Method). q.name) method_name (λ k q. refl) 0 ms) (none-behind p)
+          (omega (arith, within, long)) (below-more (length ms) (length ms') long (few.methods c))
+          ∙ ap (λ (qs : List Method). method_place qs x) (own ∙ sym (among-is d.members))

@@ -31,18 +31,18 @@ use Rattle.rg_build.specs.Maps.{types_in}
 
 -- Answers
 
-ok-is : {A E : Type 0} {a b : A} → ◌≡◌ {A = Result A E} (Ok a) (Ok b) → a ≡ b
+pub ok-is : {A E : Type 0} {a b : A} → ◌≡◌ {A = Result A E} (Ok a) (Ok b) → a ≡ b
 ok-is h = grind arith
 
-some-is : {A : Type 0} {a b : A} → Some a ≡ Some b → a ≡ b
+pub some-is : {A : Type 0} {a b : A} → Some a ≡ Some b → a ≡ b
 some-is h = grind arith
 
-none-some : {A : Type 0} {a : A} → None ≡ Some a → ⊥
+pub none-some : {A : Type 0} {a : A} → None ≡ Some a → ⊥
 none-some h = grind arith
 
 -- Classes of types
 
-abbrev class_is : Ty → Option ℕ
+abbrev pub class_is : Ty → Option ℕ
 class_is Int = None
 class_is Bool = None
 class_is (Ref cap c) = Some c
@@ -56,21 +56,21 @@ seen-by : (b : Truth) (t : Ty) → class_is (if b then t else pause t) ≡ class
 seen-by true t = refl
 seen-by false t = pause-class t
 
-seen-class : (env : Env) (e : Entry) → class_is (seen_type env e) ≡ class_is e.ty
+pub seen-class : (env : Env) (e : Entry) → class_is (seen_type env e) ≡ class_is e.ty
 seen-class env e = seen-by (at_depth env e) e.ty
 
-read-class : (receiver : Cap) (declared x : Ty) → read_through receiver declared ≡ Ok x → class_is x ≡ class_is declared
+pub read-class : (receiver : Cap) (declared x : Ty) → read_through receiver declared ≡ Ok x → class_is x ≡ class_is declared
 read-class receiver Int x h = ap class_is (sym (ok-is h))
 read-class receiver Bool x h = ap class_is (sym (ok-is h))
 read-class receiver (Ref cap c) x h = let p = bind-ok (ok_or (adapt receiver cap) Capability) _ x h in ap class_is (sym (ok-is p.2))
 
-behind-type : (cs : List Class) (t : Ty) (f : Name) (c : ℕ) (d : Ty) → class_is t ≡ Some c → field_type cs c f ≡ Some d → type_behind cs t f ≡ d
+pub behind-type : (cs : List Class) (t : Ty) (f : Name) (c : ℕ) (d : Ty) → class_is t ≡ Some c → field_type cs c f ≡ Some d → type_behind cs t f ≡ d
 behind-type cs Int f c d h g = absurd (none-some h)
 behind-type cs Bool f c d h g = absurd (none-some h)
 behind-type cs (Ref cap k) f c d h g =
     ap (λ (n : ℕ). unwrap_or (field_type cs n f) Int) (some-is h) ∙ ap (λ (o : Option Ty). unwrap_or o Int) g
 
-fields-class : (cs : List Class) (fs : List Name) (t u r : Ty) → class_is u ≡ class_is t → walk_fields cs u fs ≡ Ok r →
+pub fields-class : (cs : List Class) (fs : List Name) (t u r : Ty) → class_is u ≡ class_is t → walk_fields cs u fs ≡ Ok r →
     class_is (type_along cs t fs) ≡ class_is r
 fields-class cs [] t u r e h = sym e ∙ ap class_is (ok-is h)
 fields-class cs (f ∷ fs) t u r e h =
@@ -80,12 +80,12 @@ fields-class cs (f ∷ fs) t u r e h =
     let behind : type_behind cs t f ≡ q.0.ty = behind-type cs t f k.class q.0.ty (sym e ∙ ap class_is k.reference) k.declared in
     fields-class cs fs (type_behind cs t f) p.0 r (read-class q.0.receiver q.0.ty p.0 q.2 ∙ ap class_is (sym behind)) p.2
 
-along-last : (cs : List Class) (t : Ty) (f : Name) (fs : List Name) →
+pub along-last : (cs : List Class) (t : Ty) (f : Name) (fs : List Name) →
     type_along cs t (f ∷ fs) ≡ type_behind cs (type_along cs t (all_but_last f fs)) (last_field f fs)
 along-last cs t f [] = refl
 along-last cs t f (g ∷ gs) = along-last cs (type_behind cs t f) g gs
 
-iso-of : (cs : List Class) (t : Ty) (c : ℕ) → iso_class t ≡ Some c → class_of cs t ≡ c
+pub iso-of : (cs : List Class) (t : Ty) (c : ℕ) → iso_class t ≡ Some c → class_of cs t ≡ c
 iso-of cs Int c h = absurd (none-some h)
 iso-of cs Bool c h = absurd (none-some h)
 iso-of cs (Ref Mut d) c h = absurd (none-some h)
@@ -136,7 +136,7 @@ type-by true s e o ss x rest y h g = y ∙ ap (λ (q : Entry). q.ty) (some-is g)
 type-by false s e o ss x rest y h g = h g
 
 -- the declared type of a variable that is there
-type-found : (es : List Entry) (ss : Scope) (x : Variable) (o : Entry) → Matches es ss →
+pub type-found : (es : List Entry) (ss : Scope) (x : Variable) (o : Entry) → Matches es ss →
     find (λ (e : Entry). same_variable e.name x) es ≡ Some o → type_in ss x ≡ o.ty
 type-found [] ss x o h g = absurd (none-some g)
 type-found (e ∷ es) [] x o h g = absurd h

@@ -6,7 +6,7 @@ use Rattle.rg_rules.proofs.Answers.{bind-ok, then-ok, at_line-ok}
 pub record Follows {A B E : Type 0} (f : A → B) (r : Result A E) (s : Result B E) : Type 0 where
   pub ok : (a : A) → r ≡ Ok a → s ≡ Ok (f a)
 
-ok-is : {A E : Type 0} {a b : A} → ◌≡◌ {A = Result A E} (Ok a) (Ok b) → a ≡ b
+pub ok-is : {A E : Type 0} {a b : A} → ◌≡◌ {A = Result A E} (Ok a) (Ok b) → a ≡ b
 ok-is h = grind arith
 
 pub ok-follows : {A B E : Type 0} (f : A → B) (a : A) (b : B) → b ≡ f a → Follows {E = E} f (Ok a) (Ok b)

@@ -47,25 +47,22 @@ slots-again : (m : Truth) (ss : Scope) (k n : ℕ) (x : Variable) → n ≡ k + 
 slots-again m [] k n x e r = (refl, refl)
 slots-again m (s ∷ ss) k n x e r = by (same_variable s.name x) e (slots-again m ss (suc k) n x)
   where
-    abbrev rest : Scope
-    rest = renamed_from (slot_again m) (suc k) ss
-
     by : (b : Truth) → n ≡ k + (if b then 0 else suc (slot_of ss x)) → (n ≡ suc k + slot_of ss x → suc k + length ss < 2 ^ 64 →
-        (slot_of rest (variable_in m n) ≡ slot_of ss x) × (type_in rest (variable_in m n) ≡ type_in ss x)) →
-        ((if same_variable (variable_in m k) (variable_in m n) then 0 else suc (slot_of rest (variable_in m n)))
+        (slot_of (renamed_from (slot_again m) (suc k) ss) (variable_in m n) ≡ slot_of ss x) × (type_in (renamed_from (slot_again m) (suc k) ss) (variable_in m n) ≡ type_in ss x)) →
+        ((if same_variable (variable_in m k) (variable_in m n) then 0 else suc (slot_of (renamed_from (slot_again m) (suc k) ss) (variable_in m n)))
         ≡ (if b then 0 else suc (slot_of ss x)))
-        × ((if same_variable (variable_in m k) (variable_in m n) then s.ty else type_in rest (variable_in m n)) ≡ (if b then s.ty else type_in ss x))
+        × ((if same_variable (variable_in m k) (variable_in m n) then s.ty else type_in (renamed_from (slot_again m) (suc k) ss) (variable_in m n)) ≡ (if b then s.ty else type_in ss x))
     by true e h =
         let q = same-slot m k n (omega (arith, e)) in (
-          ap (λ (b : Truth). if b then 0 else suc (slot_of rest (variable_in m n))) q,
-          ap (λ (b : Truth). if b then s.ty else type_in rest (variable_in m n)) q,
+          ap (λ (b : Truth). if b then 0 else suc (slot_of (renamed_from (slot_again m) (suc k) ss) (variable_in m n))) q,
+          ap (λ (b : Truth). if b then s.ty else type_in (renamed_from (slot_again m) (suc k) ss) (variable_in m n)) q,
         )
     by false e h =
         let l = slot-bound ss x in
         let q = other-slot m k n (λ z. omega (arith, e, z)) (omega (arith, r)) (omega (arith, e, r, l)) in
         let p = h (omega (arith, e)) (omega (arith, r)) in (
-          ap (λ (b : Truth). if b then 0 else suc (slot_of rest (variable_in m n))) q ∙ ap (λ (j : ℕ). suc j) p.0,
-          ap (λ (b : Truth). if b then s.ty else type_in rest (variable_in m n)) q ∙ p.1,
+          ap (λ (b : Truth). if b then 0 else suc (slot_of (renamed_from (slot_again m) (suc k) ss) (variable_in m n))) q ∙ ap (λ (j : ℕ). suc j) p.0,
+          ap (λ (b : Truth). if b then s.ty else type_in (renamed_from (slot_again m) (suc k) ss) (variable_in m n)) q ∙ p.1,
         )
 
 -- Entries
@@ -79,19 +76,16 @@ entries-again m (o ∷ es) (s ∷ ss) k n x h e r =
     by (same_variable o.name x)
     (e ∙ ap (λ (v : Variable). k + (if same_variable v x then 0 else suc (slot_of ss x))) h.0) (entries-again m es ss (suc k) n x h.2)
   where
-    abbrev found : Option Entry
-    found = find (λ (q : Entry). same_variable q.name (variable_in m n)) (renamed_from (entry_again m) (suc k) es)
-
     by : (b : Truth) → n ≡ k + (if b then 0 else suc (slot_of ss x)) → (n ≡ suc k + slot_of ss x → suc k + length ss < 2 ^ 64 →
-        found ≡ option_map (entry_again m n) (find (λ (q : Entry). same_variable q.name x) es)) →
-        (if same_variable (variable_in m k) (variable_in m n) then Some (entry_again m k o) else found)
+        (find (λ (q : Entry). same_variable q.name (variable_in m n)) (renamed_from (entry_again m) (suc k) es)) ≡ option_map (entry_again m n) (find (λ (q : Entry). same_variable q.name x) es)) →
+        (if same_variable (variable_in m k) (variable_in m n) then Some (entry_again m k o) else (find (λ (q : Entry). same_variable q.name (variable_in m n)) (renamed_from (entry_again m) (suc k) es)))
         ≡ option_map (entry_again m n) (if b then Some o else find (λ (q : Entry). same_variable q.name x) es)
     by true e g =
         let same : k ≡ n = omega (arith, e) in
-        ap (λ (b : Truth). if b then Some (entry_again m k o) else found) (same-slot m k n same) ∙ ap (λ (j : ℕ). Some (entry_again m j o)) same
+        ap (λ (b : Truth). if b then Some (entry_again m k o) else (find (λ (q : Entry). same_variable q.name (variable_in m n)) (renamed_from (entry_again m) (suc k) es))) (same-slot m k n same) ∙ ap (λ (j : ℕ). Some (entry_again m j o)) same
     by false e g =
         let l = slot-bound ss x in
-        ap (λ (b : Truth). if b then Some (entry_again m k o) else found)
+        ap (λ (b : Truth). if b then Some (entry_again m k o) else (find (λ (q : Entry). same_variable q.name (variable_in m n)) (renamed_from (entry_again m) (suc k) es)))
         (other-slot m k n (λ z. omega (arith, e, z)) (omega (arith, r)) (omega (arith, e, r, l)))
         ∙ g (omega (arith, e)) (omega (arith, r))
 
@@ -133,30 +127,24 @@ marks-again m now (o ∷ es) (s ∷ ss) k n x d h c e r =
     by (same_variable o.name x) refl
     (e ∙ ap (λ (v : Variable). k + (if same_variable v x then 0 else suc (slot_of ss x))) h.0) (marks-again m now es ss (suc k) n x d.1 h.2)
   where
-    abbrev own : Entry
-    own = entry_again m k o
-
-    abbrev rest : List Entry
-    rest = renamed_from (entry_again m) (suc k) es
-
     by : (b : Truth) → same_variable o.name x ≡ b → n ≡ k + (if b then 0 else suc (slot_of ss x)) → (length es ≡ length ss → n ≡ suc k + slot_of ss x →
         suc k + length ss < 2 ^ 64 →
-        map (marked_entry (variable_in m n) now) rest ≡ renamed_from (entry_again m) (suc k) (map (marked_entry x now) es)) →
-        (if same_variable (variable_in m k) (variable_in m n) then record own { readiness = now } else own)
-        ∷ map (marked_entry (variable_in m n) now) rest
+        map (marked_entry (variable_in m n) now) (renamed_from (entry_again m) (suc k) es) ≡ renamed_from (entry_again m) (suc k) (map (marked_entry x now) es)) →
+        (if same_variable (variable_in m k) (variable_in m n) then record (entry_again m k o) { readiness = now } else (entry_again m k o))
+        ∷ map (marked_entry (variable_in m n) now) (renamed_from (entry_again m) (suc k) es)
         ≡ entry_again m k (if b then record o { readiness = now } else o) ∷ renamed_from (entry_again m) (suc k) (map (marked_entry x now) es)
     by true is e g =
         let same : k ≡ n = omega (arith, e) in
         let absent : Absent x es = subst (λ (v : Variable). Absent v es) (same_variable-true o.name x is) d.0 in
-        ap (λ (b : Truth). (if b then record own { readiness = now } else own) ∷ map (marked_entry (variable_in m n) now) rest) (same-slot m k n same)
-        ∙ ap (λ (os : List Entry). record own { readiness = now } ∷ os)
+        ap (λ (b : Truth). (if b then record (entry_again m k o) { readiness = now } else (entry_again m k o)) ∷ map (marked_entry (variable_in m n) now) (renamed_from (entry_again m) (suc k) es)) (same-slot m k n same)
+        ∙ ap (λ (os : List Entry). record (entry_again m k o) { readiness = now } ∷ os)
         (unmarked-again m now es (suc k) n (omega (arith, e)) (omega (arith, r, c))
         ∙ sym (ap (renamed_from (entry_again m) (suc k)) (unmarked x now es absent)))
     by false is e g =
         let l = slot-bound ss x in
-        ap (λ (b : Truth). (if b then record own { readiness = now } else own) ∷ map (marked_entry (variable_in m n) now) rest)
+        ap (λ (b : Truth). (if b then record (entry_again m k o) { readiness = now } else (entry_again m k o)) ∷ map (marked_entry (variable_in m n) now) (renamed_from (entry_again m) (suc k) es))
         (other-slot m k n (λ z. omega (arith, e, z)) (omega (arith, r)) (omega (arith, e, r, l)))
-        ∙ ap (λ (os : List Entry). own ∷ os) (g (omega (arith, c)) (omega (arith, e)) (omega (arith, r)))
+        ∙ ap (λ (os : List Entry). (entry_again m k o) ∷ os) (g (omega (arith, c)) (omega (arith, e)) (omega (arith, r)))
 
 -- Lists that are made in order
 
@@ -170,18 +158,18 @@ from-take each k zero xs = refl
 from-take each k (suc n) [] = refl
 from-take each k (suc n) (x ∷ xs) = ap (λ (ys : List _). each k x ∷ ys) (from-take each (suc k) n xs)
 
-joined-from : (m : Truth) (k : ℕ) (as bs : List Entry) →
-    joined_entries (renamed_from (entry_again m) k as) (renamed_from (entry_again m) k bs) ≡ renamed_from (entry_again m) k (joined_entries as bs)
+joined-from : (m : Truth) (k : ℕ) (xs bs : List Entry) →
+    joined_entries (renamed_from (entry_again m) k xs) (renamed_from (entry_again m) k bs) ≡ renamed_from (entry_again m) k (joined_entries xs bs)
 joined-from m k [] bs = refl
-joined-from m k (a ∷ as) [] = refl
-joined-from m k (a ∷ as) (b ∷ bs) =
-    ap (λ (es : List Entry). entry_again m k (record a { readiness = joined_readiness a.readiness b.readiness }) ∷ es) (joined-from m (suc k) as bs)
+joined-from m k (a ∷ xs) [] = refl
+joined-from m k (a ∷ xs) (b ∷ bs) =
+    ap (λ (es : List Entry). entry_again m k (record a { readiness = joined_readiness a.readiness b.readiness }) ∷ es) (joined-from m (suc k) xs bs)
 
-covers-from : (m : Truth) (k : ℕ) (as bs : List Entry) →
-    covers_entries (renamed_from (entry_again m) k as) (renamed_from (entry_again m) k bs) ≡ covers_entries as bs
+covers-from : (m : Truth) (k : ℕ) (xs bs : List Entry) →
+    covers_entries (renamed_from (entry_again m) k xs) (renamed_from (entry_again m) k bs) ≡ covers_entries xs bs
 covers-from m k [] bs = refl
-covers-from m k (a ∷ as) [] = ap (λ (b : Truth). not (is_ready a.readiness) && b) (covers-from m (suc k) as [])
-covers-from m k (a ∷ as) (b ∷ bs) = ap (λ (c : Truth). (not (is_ready a.readiness) || is_ready b.readiness) && c) (covers-from m (suc k) as bs)
+covers-from m k (a ∷ xs) [] = ap (λ (b : Truth). not (is_ready a.readiness) && b) (covers-from m (suc k) xs [])
+covers-from m k (a ∷ xs) (b ∷ bs) = ap (λ (c : Truth). (not (is_ready a.readiness) || is_ready b.readiness) && c) (covers-from m (suc k) xs bs)
 
 -- An environment with its scope
 
