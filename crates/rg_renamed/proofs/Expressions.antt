@@ -225,7 +225,8 @@ module _ (cs : List Class) (few : AreFew cs) (m : Truth) where
         let named-there : method_named cs (target_class cs ss c) c.method ≡ Some d.0 =
         ap (λ (k : ℕ). method_named cs k c.method) class ∙ there in
         let target : target_class again (scope_again m ss) (call_named m (numbered_call cs ss c)) ≡ target_class cs ss c =
-        class_of-again cs _ ∙ ap (class_of cs) (along-is cs few m env ss s x fs t.0 t.1) in
+        class_of-again cs (type_along again (type_in (scope_again m ss) (variable_in m (slot_of ss x))) (names_again cs (type_in ss x) fs))
+        ∙ ap (class_of cs) (along-is cs few m env ss s x fs t.0 t.1) in
         let again-there : method_named again (target_class cs ss c) (method_name (place c)) ≡ Some (renamed_method cs (target_class cs ss c) (place c) d.0) =
         method-again cs few (target_class cs ss c) c.method d.0 named-there in
         record {

@@ -60,3 +60,17 @@ line_by f line r s first a h = ap (at_line line) (first.ok a (at_line-ok line r 
 
 pub line-follows : {A B : Type 0} (f : A → B) (line : ℕ) (r : Answer A) (s : Answer B) → Follows f r s → Follows f (at_line line r) (at_line line s)
 line-follows f line r s first = record { ok = line_by f line r s first }
+
+-- a test that passes whatever the other one does
+passes_by : {C D E : Type 0} (g : C → D) (b d : Truth) (e : E) (go : Result C E) (to : Result D E) → d ≡ true → Follows g go to →
+    (c : C) → ◌>>◌ (test b e) go ≡ Ok c → ◌>>◌ (test d e) to ≡ Ok (g c)
+passes_by g true d e go to same rest c h = ap (λ q. ◌>>◌ (test q e) to) same ∙ rest.ok c h
+passes_by g false d e go to same rest c h = grind arith
+
+pub passes-follows : {C D E : Type 0} (g : C → D) (b d : Truth) (e : E) (go : Result C E) (to : Result D E) → d ≡ true → Follows g go to →
+    Follows g (◌>>◌ (test b e) go) (◌>>◌ (test d e) to)
+passes-follows g b d e go to same rest = record { ok = passes_by g b d e go to same rest }
+
+-- no value follows a fault
+pub fault-follows : {A B E : Type 0} (f : A → B) (e : E) (s : Result B E) → Follows f (Err e) s
+fault-follows f e s = record { ok = λ a h. grind arith }

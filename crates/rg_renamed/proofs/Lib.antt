@@ -1,11 +1,13 @@
 -- Lemmas on programs with numbers for names.
+mod Behind
 mod Classes
-mod Code
 mod Environments
 mod Examples
 mod Expressions
 mod Follows
 mod Names
 mod Numbered
+mod NumberedCode
 mod Paths
 mod Scopes
+mod Statements

@@ -215,7 +215,7 @@ no-more : (n k : ℕ) → k < 2 ^ 64 → n ≡ k → 0 + n < 2 ^ 64
 no-more n k l e = omega (arith, l, e)
 
 module _ (m : Truth) (env : Env) (ss : Scope) (s : Scoped m env ss) where
-  long : length env.entries ≡ length ss
+  pub long : length env.entries ≡ length ss
   long = matches-long env.entries ss s.matches
 
   pub slot-is : (x : Variable) → slot_of (scope_again m ss) (variable_in m (slot_of ss x)) ≡ slot_of ss x
@@ -245,14 +245,18 @@ module _ (m : Truth) (env : Env) (ss : Scope) (s : Scoped m env ss) where
       ap make (marks-again m now env.entries ss 0 (slot_of ss x) x s.distinct s.matches long (omega arith)
       (no-more (length ss) (length ss) s.room refl))
 
+  -- one variable more, behind as many
+  pub more-at : (front : Env) (x : Variable) (t : Ty) (a : Truth) → length front.entries ≡ length ss →
+      with_variable (env_again m front) (Some (variable_name (length ss))) t a ≡ env_again m (with_variable front x t a)
+  more-at front x t a l =
+      let make : List Entry → Env = λ es. record { depth = front.depth; entries = es } in
+      let e : Variable → Entry = λ v. record { name = v; ty = t; depth = front.depth; readiness = ready; assignable = a } in
+      ap make (ap (λ (v : Variable). renamed_from (entry_again m) 0 front.entries ++ e v ∷ []) (sym (next-name m ss s.self))
+      ∙ sym (from-more (entry_again m) 0 (length ss) front.entries (e x) (omega (arith, l))))
+
   pub more-again : (x : Variable) (t : Ty) (a : Truth) →
       with_variable (env_again m env) (Some (variable_name (length ss))) t a ≡ env_again m (with_variable env x t a)
-  more-again x t a =
-      let l = long in
-      let make : List Entry → Env = λ es. record { depth = env.depth; entries = es } in
-      let e : Variable → Entry = λ v. record { name = v; ty = t; depth = env.depth; readiness = ready; assignable = a } in
-      ap make (ap (λ (v : Variable). renamed_from (entry_again m) 0 env.entries ++ e v ∷ []) (sym (next-name m ss s.self))
-      ∙ sym (from-more (entry_again m) 0 (length ss) env.entries (e x) (omega (arith, l))))
+  more-again x t a = more-at env x t a long
 
   pub scoped-stays : (out : Env) → Stays env out → Scoped m out ss
   scoped-stays out g = record {
@@ -287,7 +291,7 @@ scope-more m ss x t h =
     ap (λ (v : Variable). scope_again m ss ++ s v ∷ []) (sym (next-name m ss h))
     ∙ sym (from-more (slot_again m) 0 (length ss) ss (s x) (omega arith))
 
-self-behind : (m : Truth) (cs : List Class) (ss : Scope) (k : StmtKind) → HasSelf m ss → HasSelf m (scope_behind cs ss k)
+pub self-behind : (m : Truth) (cs : List Class) (ss : Scope) (k : StmtKind) → HasSelf m ss → HasSelf m (scope_behind cs ss k)
 self-behind m cs ss (declare x t r) h = self-more m ss _ h
 self-behind m cs ss (assign p r) h = h
 self-behind m cs ss (assign_element q e r) h = h

@@ -18,7 +18,7 @@ use Rattle.rg_code.specs.Lowering.{Scope, Slot, with_slot, slot_of, type_in, typ
 use Rattle.rg_code.specs.Lowering.{exprs_code, used_path, used_slots, used_by_all, clears, whole_code, number_called, target_class, call_code}
 use Rattle.rg_code.specs.Lowering.{call_result, new_code, right_code, pace_code, assign_op as assigned, dropped_code, scope_behind, scope_inside}
 use Rattle.rg_code.specs.Lowering.{assign_code, assign_element_code, swap_code, enter_code, scope_at_end, leave_op as leaves, kind_code, else_code}
-use Rattle.rg_code.specs.Lowering.{block_code, else_gap as gap_behind, held_number, class_of, type_along}
+use Rattle.rg_code.specs.Lowering.{block_code, field_number, else_gap as gap_behind, held_number, class_of, type_along}
 use Rattle.rg_verify.specs.Raised.{path_ops, holder_ops, place_ops, ops_of, all_ops}
 use Rattle.rg_verify.specs.Statements as numbers
 use Rattle.rg_verify.specs.Statements.{type_at, used_by_path, used, all_used, types_behind, types_inside, whole_ops, call_ops, new_ops, right_ops}
@@ -69,7 +69,7 @@ types-long ss = length-map ss (λ (s : Slot). s.ty)
 module _ (cs : List Class) where
   fields-are : (t : Ty) (fs : List Name) → fields_code cs t fs ≡ map i.Field (field_numbers cs t fs)
   fields-are t [] = refl
-  fields-are t (f ∷ fs) = ap (λ (os : List Op). i.Field _ ∷ os) (fields-are (type_behind cs t f) fs)
+  fields-are t (f ∷ fs) = ap (λ (os : List Op). i.Field (field_number cs t f) ∷ os) (fields-are (type_behind cs t f) fs)
 
   path-is : (ss : Scope) (x : Variable) (fs : List Name) → path_code cs ss x fs ≡ path_ops (slot_of ss x) (path_numbers cs ss x fs)
   path-is ss x fs = ap (λ (os : List Op). i.Load (slot_of ss x) ∷ os) (fields-are (type_in ss x) fs)
