@@ -60,7 +60,7 @@ behind-count cs ss (return e) = refl
 
 -- a statement leaves room for as many names as it has not
 pub behind-room : (cs : List Class) (ss : Scope) (k : StmtKind) → length (scope_behind cs ss k) ≤ length ss + kind_names k
-behind-room cs ss (declare x t r) = let n = slots-more ss _ in omega (arith, n)
+behind-room cs ss (declare x t r) = let n = slots-more ss (record { name = Some x; ty = type_of cs t }) in omega (arith, n)
 behind-room cs ss (assign p r) = omega arith
 behind-room cs ss (assign_element q e r) = omega arith
 behind-room cs ss (call c) = omega arith

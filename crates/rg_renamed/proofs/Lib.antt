@@ -1,5 +1,7 @@
 -- Lemmas on programs with numbers for names.
 mod Behind
+mod Blocks
+mod BlocksFound
 mod Classes
 mod Environments
 mod Examples

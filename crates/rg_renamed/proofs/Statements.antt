@@ -43,7 +43,7 @@ use Rattle.rg_renamed.proofs.Follows.{Follows, ok-follows, same-follows, bind-fo
 use Rattle.rg_renamed.proofs.Follows.{line-follows, fault-follows}
 use Rattle.rg_renamed.proofs.Scopes.{scope_again, entry_again, env_again, Scoped, slot-is, slot-name, found-again, new-again, marked-again, more-at}
 use Rattle.rg_renamed.proofs.Scopes.{more-again, long, scoped-stays, closed-again, joined-again, covers-again, slots-more, scope-more, scoped-behind}
-use Rattle.rg_renamed.proofs.Scopes.{scoped-inside, self-more}
+use Rattle.rg_renamed.proofs.Scopes.{scoped-inside}
 use Rattle.rg_renamed.proofs.Behind.{scope-long, behind-count, behind-room, bridge-slot, scoped-closed, behind-again, end-again}
 use Rattle.rg_renamed.proofs.Paths.{names_again, name_again, split-numbers, class_of-again, array-follows, array-found, writable-follows, alone-found}
 use Rattle.rg_renamed.proofs.Paths.{last-found, along-is}
@@ -61,7 +61,7 @@ call-again cs ss m read = refl
 call-again cs ss m more = refl
 call-again cs ss m (result_of c) = refl
 
-last-again : (cs : List Class) (ss : Scope) (m : Truth) (n : ℕ) (r : Option Ty) (b : Block) →
+pub last-again : (cs : List Class) (ss : Scope) (m : Truth) (n : ℕ) (r : Option Ty) (b : Block) →
     last_of r (block_named m n (numbered_block cs ss b)) ≡ last_of r b
 last-again cs ss m n r empty = refl
 last-again cs ss m n r (next (stmt line k) b) = refl
@@ -71,22 +71,22 @@ module _ (cs : List Class) (few : AreFew cs) (m : Truth) where
   again = renamed_classes cs
 
   -- the names of the numbers of a path whose last field is apart
-  fields-apart : (t : Ty) (f : Name) (fs : List Name) →
+  pub fields-apart : (t : Ty) (f : Name) (fs : List Name) →
       map field_name (field_numbers cs t (all_but_last f fs) ++ field_number cs (type_along cs t (all_but_last f fs)) (last_field f fs) ∷ []) ≡ names_again cs t (f ∷ fs)
   fields-apart t f fs = ap (map field_name) (split-numbers cs t f fs)
 
   module _ (env : Env) (ss : Scope) (s : Scoped m env ss) where
-    right-scoped : (w : Ty) (r : Right) (j : Judged) → judge_right cs env w r ≡ Ok j → Scoped m j.env ss
+    pub right-scoped : (w : Ty) (r : Right) (j : Judged) → judge_right cs env w r ≡ Ok j → Scoped m j.env ss
     right-scoped w r j h = scoped-stays m env ss s j.env (judge_right-stays cs env w r j s.distinct h)
 
-    expr-scoped : (w : Option Ty) (e : Expr) (j : Judged) → judge_expr cs env w e ≡ Ok j → Scoped m j.env ss
+    pub expr-scoped : (w : Option Ty) (e : Expr) (j : Judged) → judge_expr cs env w e ≡ Ok j → Scoped m j.env ss
     expr-scoped w e j h = scoped-stays m env ss s j.env (judge_expr-stays cs env w e j s.distinct h)
 
     is-new : negated (visible (env_again m env) (Some (variable_name (length ss)))) ≡ true
     is-new = ap (λ (b : Truth). negated b) (new-again m env ss s)
 
     -- `let`
-    declare-follows : (x : Name) (t : Written) (r : Right) → Follows (env_again m) (judge_declare cs env x t r)
+    pub declare-follows : (x : Name) (t : Written) (r : Right) → Follows (env_again m) (judge_declare cs env x t r)
         (judge_declare again (env_again m env) (variable_name (length ss)) (renamed_type cs t) (right_named m (numbered_right cs ss r)))
     declare-follows x t r =
         passes-follows _ (negated (visible env (Some x))) (negated (visible (env_again m env) (Some (variable_name (length ss))))) Duplicate _ _ is-new
@@ -95,9 +95,9 @@ module _ (cs : List Class) (few : AreFew cs) (m : Truth) where
         ok-follows _ _ _ (more-again m j.env ss (right-scoped d r j is') (Some x) d true))))
 
     -- `x = r` and `q.f = r`
-    assign-follows : (line : ℕ) (x : Variable) (fs : List Name) (r : Right) → Follows (env_again m) (at_line line (judge_assign cs env x fs r))
-        (judge_kind again None line (env_again m env) (kind_named m (length ss) (numbered_assign cs ss x fs (numbered_right cs ss r))))
-    assign-follows line x [] r =
+    pub assign-follows : (last : Option Ty) (line : ℕ) (x : Variable) (fs : List Name) (r : Right) → Follows (env_again m) (at_line line (judge_assign cs env x fs r))
+        (judge_kind again last line (env_again m env) (kind_named m (length ss) (numbered_assign cs ss x fs (numbered_right cs ss r))))
+    assign-follows last line x [] r =
         line-follows _ line _ _
         (found-follows (entry_again m (slot_of ss x)) _ _ _ _ _ _ (λ e h. found-again m env ss s x e h) (λ e h.
         test-follows _ e.assignable e.assignable OutsideWindow _ _ refl (λ a.
@@ -105,7 +105,7 @@ module _ (cs : List Class) (few : AreFew cs) (m : Truth) where
         test-follows _ (negated (is_lent e.readiness)) (negated (is_lent e.readiness)) Unavailable _ _ refl (λ c.
         bind-follows (judged_again m) _ _ _ _ _ (right-follows cs few m env ss s e.ty r) (λ j is.
         ok-follows _ _ _ (marked-again m j.env ss (right-scoped e.ty r j is) x ready)))))))
-    assign-follows line x (f ∷ fs) r =
+    assign-follows last line x (f ∷ fs) r =
         let right = right_named m (numbered_right cs ss r) in
         let P : List Name → Type 0 = λ gs. Follows (env_again m) (at_line line (judge_assign cs env x (f ∷ fs) r))
         (at_line line (judge_assign again (env_again m env) (variable_in m (slot_of ss x)) gs right)) in
@@ -117,7 +117,7 @@ module _ (cs : List Class) (few : AreFew cs) (m : Truth) where
         bind-follows (judged_again m) _ _ _ _ _ (right-follows cs few m env ss s t r) (λ j is'. ok-follows _ _ _ refl))))))
 
     -- `q[e] = r`
-    element-follows : (x : Variable) (fs : List Name) (e : Expr) (r : Right) → Follows (env_again m) (judge_assign_element cs env x fs e r)
+    pub element-follows : (x : Variable) (fs : List Name) (e : Expr) (r : Right) → Follows (env_again m) (judge_assign_element cs env x fs e r)
         (judge_assign_element again (env_again m env) (variable_in m (slot_of ss x)) (names_again cs (type_in ss x) fs) (named m (numbered cs ss e))
         (right_named m (numbered_right cs ss r)))
     element-follows x fs e r =
@@ -130,17 +130,17 @@ module _ (cs : List Class) (few : AreFew cs) (m : Truth) where
         ok-follows _ _ _ refl)))))
 
     -- `swap`
-    swap-follows : (line : ℕ) (y : Name) (x : Variable) (fs : List Name) →
+    pub swap-follows : (last : Option Ty) (line : ℕ) (y : Name) (x : Variable) (fs : List Name) →
         Follows (env_again m) (at_line line (judge_swap cs env y (record { base = x; fields = fs })))
-        (judge_kind again None line (env_again m env) (kind_named m (length ss) (numbered_swap cs ss (slot_of ss (Some y)) x fs)))
-    swap-follows line y x [] = record { ok = λ a h. absurd (no-field line y x a h) }
+        (judge_kind again last line (env_again m env) (kind_named m (length ss) (numbered_swap cs ss (slot_of ss (Some y)) x fs)))
+    swap-follows last line y x [] = record { ok = λ a h. absurd (no-field line y x a h) }
       where
         no-field : (line : ℕ) (y : Name) (x : Variable) (a : Env) → at_line line (judge_swap cs env y (record { base = x; fields = [] })) ≡ Ok a → ⊥
         no-field line y x a h =
             let q = judge_swap-parts cs env a y (record { base = x; fields = [] })
             (at_line-ok line (judge_swap cs env y (record { base = x; fields = [] })) a h) in
             let e : Err Mismatch ≡ Ok q.ty = q.field in grind arith
-    swap-follows line y x (f ∷ fs) =
+    swap-follows last line y x (f ∷ fs) =
         let y' = variable_name (slot_of ss (Some y)) in
         let P : List Name → Type 0 = λ gs. Follows (env_again m) (at_line line (judge_swap cs env y (record { base = x; fields = f ∷ fs })))
         (at_line line (judge_swap again (env_again m env) y' (record { base = variable_in m (slot_of ss x); fields = gs }))) in
@@ -154,21 +154,21 @@ module _ (cs : List Class) (few : AreFew cs) (m : Truth) where
         test-follows _ (same_type t e.ty) (same_type t e.ty) Mismatch _ _ refl (λ c. ok-follows _ _ _ refl)))))))
 
     -- tests, and what is printed or returned
-    test-goes : (e : Expr) → Follows (env_again m) (judge_test cs env e) (judge_test again (env_again m env) (named m (numbered cs ss e)))
+    pub test-goes : (e : Expr) → Follows (env_again m) (judge_test cs env e) (judge_test again (env_again m env) (named m (numbered cs ss e)))
     test-goes e = bind-follows (judged_again m) _ _ _ _ _ (expr-follows cs few m env ss (Some Bool) e s) (λ j is. ok-follows _ _ _ refl)
 
-    print-goes : (e : Expr) → Follows (env_again m) (judge_print cs env e) (judge_print again (env_again m env) (named m (numbered cs ss e)))
+    pub print-goes : (e : Expr) → Follows (env_again m) (judge_print cs env e) (judge_print again (env_again m env) (named m (numbered cs ss e)))
     print-goes e =
         bind-follows (judged_again m) _ _ _ _ _ (expr-follows cs few m env ss None e s) (λ j is.
         test-follows _ (printable j.ty) (printable j.ty) Mismatch _ _ refl (λ b. ok-follows _ _ _ refl))
 
-    return-goes : (last : Option Ty) (e : Expr) →
+    pub return-goes : (last : Option Ty) (e : Expr) →
         Follows (env_again m) (judge_return cs last env e) (judge_return again last (env_again m env) (named m (numbered cs ss e)))
     return-goes last e =
         found-follows (λ (t : Ty). t) _ last last Return _ _ (λ t h. h) (λ t h.
         bind-follows (judged_again m) _ _ _ _ _ (expr-follows cs few m env ss (Some t) e s) (λ j is. ok-follows _ _ _ refl))
 
-    call-goes : (c : Call) → Follows (env_again m) (judge_call_alone cs env c)
+    pub call-goes : (c : Call) → Follows (env_again m) (judge_call_alone cs env c)
         (judge_call_alone again (env_again m env) (call_named m (numbered_call cs ss c)))
     call-goes c = bind-follows (called_again m) _ _ _ _ _ (call-follows cs few m env ss s c) (λ j is. ok-follows _ _ _ refl)
 
@@ -178,7 +178,7 @@ module _ (cs : List Class) (few : AreFew cs) (m : Truth) where
         ≡ env_again m (with_variable (deeper front) (Some z) (Ref Mut c) true)
     inside-again front z c l = more-at m env ss s (deeper front) (Some z) (Ref Mut c) true l
 
-    enter-variable : (x : Variable) (z : Name) → Follows (env_again m) (judge_enter cs env x [] z)
+    pub enter-variable : (x : Variable) (z : Name) → Follows (env_again m) (judge_enter cs env x [] z)
         (judge_enter again (env_again m env) (variable_in m (slot_of ss x)) [] (variable_name (length ss)))
     enter-variable x z =
         found-follows (entry_again m (slot_of ss x)) _ _ _ _ _ _ (λ e h. found-again m env ss s x e h) (λ e h.
@@ -189,7 +189,7 @@ module _ (cs : List Class) (few : AreFew cs) (m : Truth) where
         (ap (λ (o : Env). with_variable (deeper o) (Some (variable_name (length ss))) (Ref Mut c) true) (marked-again m env ss s x lent)
         ∙ inside-again (marked x lent env) z c (length-map env.entries (marked_entry x lent) ∙ long m env ss s))))))
 
-    enter-field : (x : Variable) (f : Name) (fs : List Name) (z : Name) → Follows (env_again m) (judge_enter cs env x (f ∷ fs) z)
+    pub enter-field : (x : Variable) (f : Name) (fs : List Name) (z : Name) → Follows (env_again m) (judge_enter cs env x (f ∷ fs) z)
         (judge_enter again (env_again m env) (variable_in m (slot_of ss x)) (names_again cs (type_in ss x) (f ∷ fs)) (variable_name (length ss)))
     enter-field x f fs z =
         bind-follows (λ (t : Ty). t) _ _ _ _ _ (writable-follows cs few m env ss s x f fs) (λ t is.
@@ -197,12 +197,12 @@ module _ (cs : List Class) (few : AreFew cs) (m : Truth) where
         passes-follows _ (negated (visible env (Some z))) (negated (visible (env_again m env) (Some (variable_name (length ss))))) Duplicate _ _ is-new
         (ok-follows _ _ _ (inside-again env z c (long m env ss s)))))
 
-    enter-absent : (x : Variable) (fs : List Name) (z : Name) (out : Env) → judge_enter cs env x fs z ≡ Ok out → Absent (Some z) env.entries
+    pub enter-absent : (x : Variable) (fs : List Name) (z : Name) (out : Env) → judge_enter cs env x fs z ≡ Ok out → Absent (Some z) env.entries
     enter-absent x [] z out h = (judge_enter-variable cs env out x z h).absent
     enter-absent x (f ∷ fs) z out h = (judge_enter-field cs env out x f fs z h).absent
 
   -- what a window gives
-  giving-follows : (out : Env) (end : Scope) (n : ℕ) (z : Name) (w : Option Name) → Scoped m out end → slot_of end (Some z) ≡ n →
+  pub giving-follows : (out : Env) (end : Scope) (n : ℕ) (z : Name) (w : Option Name) → Scoped m out end → slot_of end (Some z) ≡ n →
       Follows (λ (u : Unit {0}). u) (judge_giving out z w)
       (judge_giving (env_again m out) (variable_name n) (option_map variable_name (giving_slot end w)))
   giving-follows out end n z None s e = ok-follows _ _ _ refl
@@ -215,6 +215,6 @@ module _ (cs : List Class) (few : AreFew cs) (m : Truth) where
       ∙ ap (entry_of (env_again m out)) (sym (slot-name m end z s.self)) ∙ found-again m out end s (Some z) q g)
       (λ q g. same-follows _ _ refl))
 
-  left-again : (env : Env) (ss : Scope) (x : Variable) → Scoped m env ss →
+  pub left-again : (env : Env) (ss : Scope) (x : Variable) → Scoped m env ss →
       left (variable_in m (slot_of ss x)) [] (env_again m env) ≡ env_again m (left x [] env)
   left-again env ss x s = marked-again m env ss s x ready
