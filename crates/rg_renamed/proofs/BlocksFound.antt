@@ -155,7 +155,7 @@ module _ (cs : List Class) (few : AreFew cs) (m : Truth) where
       IsKindFound again (scope_again m ss) m (numbered_enter cs ss x fs (inner env ss s x fs z b w) (giving_slot (end env ss s x fs z b w) w))
   enter-found env front out ss s x [] z b w e o h self =
       let r = entered-found env ss s x [] z b w out [] o (type-is m env ss s x) h self in (
-        record { path = alone-found cs few m env ss s x; class = class_of-again cs _ ∙ ap (class_of cs) (type-is m env ss s x) },
+        record { path = alone-found cs few m env ss s x; class = class_of-again cs (type_in (scope_again m ss) (variable_in m (slot_of ss x))) ∙ ap (class_of cs) (type-is m env ss s x) },
         r.block,
         r.giving,
       )

@@ -10,6 +10,7 @@ mod Follows
 mod Names
 mod Numbered
 mod NumberedCode
+mod NumberedMaps
 mod Paths
 mod Scopes
 mod Statements

@@ -206,13 +206,22 @@ slot-name true (s ∷ ss) y h =
     let P : Variable → Type 0 = λ v. variable_in true (if same_variable v (Some y) then 0 else suc (slot_of ss (Some y)))
     ≡ Some (variable_name (if same_variable v (Some y) then 0 else suc (slot_of ss (Some y)))) in subst P (sym h) refl
 
-self-more : (m : Truth) (ss : Scope) (s : Slot) → HasSelf m ss → HasSelf m (ss ++ s ∷ [])
+pub self-more : (m : Truth) (ss : Scope) (s : Slot) → HasSelf m ss → HasSelf m (ss ++ s ∷ [])
 self-more false ss s h = tt
 self-more true [] s h = absurd h
 self-more true (x ∷ ss) s h = h
 
 no-more : (n k : ℕ) → k < 2 ^ 64 → n ≡ k → 0 + n < 2 ^ 64
 no-more n k l e = omega (arith, l, e)
+
+-- one variable more
+pub more-in : (m : Truth) (ss : Scope) (front : Env) (x : Variable) (t : Ty) (a : Truth) → HasSelf m ss → length front.entries ≡ length ss →
+    with_variable (env_again m front) (Some (variable_name (length ss))) t a ≡ env_again m (with_variable front x t a)
+more-in m ss front x t a h l =
+    let make : List Entry → Env = λ es. record { depth = front.depth; entries = es } in
+    let e : Variable → Entry = λ v. record { name = v; ty = t; depth = front.depth; readiness = ready; assignable = a } in
+    ap make (ap (λ (v : Variable). renamed_from (entry_again m) 0 front.entries ++ e v ∷ []) (sym (next-name m ss h))
+    ∙ sym (from-more (entry_again m) 0 (length ss) front.entries (e x) (omega (arith, l))))
 
 module _ (m : Truth) (env : Env) (ss : Scope) (s : Scoped m env ss) where
   pub long : length env.entries ≡ length ss
@@ -248,11 +257,7 @@ module _ (m : Truth) (env : Env) (ss : Scope) (s : Scoped m env ss) where
   -- one variable more, behind as many
   pub more-at : (front : Env) (x : Variable) (t : Ty) (a : Truth) → length front.entries ≡ length ss →
       with_variable (env_again m front) (Some (variable_name (length ss))) t a ≡ env_again m (with_variable front x t a)
-  more-at front x t a l =
-      let make : List Entry → Env = λ es. record { depth = front.depth; entries = es } in
-      let e : Variable → Entry = λ v. record { name = v; ty = t; depth = front.depth; readiness = ready; assignable = a } in
-      ap make (ap (λ (v : Variable). renamed_from (entry_again m) 0 front.entries ++ e v ∷ []) (sym (next-name m ss s.self))
-      ∙ sym (from-more (entry_again m) 0 (length ss) front.entries (e x) (omega (arith, l))))
+  more-at front x t a l = more-in m ss front x t a s.self l
 
   pub more-again : (x : Variable) (t : Ty) (a : Truth) →
       with_variable (env_again m env) (Some (variable_name (length ss))) t a ≡ env_again m (with_variable env x t a)
