@@ -7,10 +7,13 @@ mod Environments
 mod Examples
 mod Expressions
 mod Follows
+mod Headers
+mod Methods
 mod Names
 mod Numbered
 mod NumberedCode
 mod NumberedMaps
+mod Parameters
 mod Paths
 mod Scopes
 mod Statements

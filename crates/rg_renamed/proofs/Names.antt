@@ -33,7 +33,7 @@ methods-apart i j p q h = let e : decimal i ≡ decimal j = ap (λ (x : Name). d
 pub same-bytes : (x y : Name) → x ≡ y → bytes_eq x y ≡ true
 same-bytes x y e = (bytes_eq-Decides x y).1 e
 
-other-bytes : (x y : Name) → (x ≡ y → ⊥) → bytes_eq x y ≡ false
+pub other-bytes : (x y : Name) → (x ≡ y → ⊥) → bytes_eq x y ≡ false
 other-bytes x y n = by (bytes_eq x y) refl
   where
     by : (b : Truth) → bytes_eq x y ≡ b → bytes_eq x y ≡ false

@@ -159,6 +159,17 @@ module _ (cs : List Class) (m : Truth) where
         ty = ty.Ref cap.Mut (class_of cs (type_along cs (type_in ss p.base) p.fields));
       } ∷ [])
 
+  -- `enter`, from what is said of its block
+  inside-named : (ss : Scope) (s : ℕ) (ks : List ℕ) (c : ℕ) (b : numbers.Block) → IsEntryFound cs ss m s ks c →
+      (let inside = scope_inside cs ss (path_named m s ks) (variable_name (length ss)) in
+      block_maps cs true inside (block_named m (length inside) b) ≡ maps_in true (types_in inside) b) →
+      block_maps cs true (scope_inside cs ss (path_named m s ks) (variable_name (length ss))) (block_named m (length ss + 1) b)
+      ≡ maps_in true (types_inside (types_in ss) c) b
+  inside-named ss s ks c b f r =
+      let inside = scope_inside cs ss (path_named m s ks) (variable_name (length ss)) in
+      ap (λ (n : ℕ). block_maps cs true inside (block_named m n b)) (sym (inside-slots ss s ks)) ∙ r
+      ∙ ap (λ (ts : List Ty). maps_in true ts b) (named-inside ss s ks c f)
+
   mutual
     kind-named : (k : numbers.Kind) (ss : Scope) → IsKindFound cs ss m k →
         inner_maps cs ss (kind_named m (length ss) k) ≡ kind_maps (types_in ss) k
@@ -172,20 +183,14 @@ module _ (cs : List Class) (m : Truth) where
         ap (λ (ms : List (List Ty)). ms ++ else_maps cs ss (else_named m (length ss) other)) (block-named true b ss g)
         ∙ ap (λ (ms : List (List Ty)). maps_in true (types_in ss) b ++ ms) (else-named other ss h)
     kind-named (numbers.while e b) ss (f, g) = block-named true b ss g
-    kind-named (numbers.enter s c b w) ss (f, g, h) = inside-named ss s [] c b f g
-    kind-named (numbers.enter_field s ks k c b w) ss (f, g, h) = inside-named ss s (ks ++ k ∷ []) c b f g
+    kind-named (numbers.enter s c b w) ss (f, g, h) =
+        inside-named ss s [] c b f (block-named true b (scope_inside cs ss (path_named m s []) (variable_name (length ss))) g)
+    kind-named (numbers.enter_field s ks k c b w) ss (f, g, h) =
+        inside-named ss s (ks ++ k ∷ []) c b f
+        (block-named true b (scope_inside cs ss (path_named m s (ks ++ k ∷ [])) (variable_name (length ss))) g)
     kind-named (numbers.print e) ss h = refl
     kind-named numbers.collect ss h = refl
     kind-named (numbers.return e) ss h = refl
-
-    inside-named : (ss : Scope) (s : ℕ) (ks : List ℕ) (c : ℕ) (b : numbers.Block) → IsEntryFound cs ss m s ks c →
-        IsBlockFound cs (scope_inside cs ss (path_named m s ks) (variable_name (length ss))) m b →
-        block_maps cs true (scope_inside cs ss (path_named m s ks) (variable_name (length ss))) (block_named m (length ss + 1) b)
-        ≡ maps_in true (types_inside (types_in ss) c) b
-    inside-named ss s ks c b f g =
-        let inside = scope_inside cs ss (path_named m s ks) (variable_name (length ss)) in
-        ap (λ (n : ℕ). block_maps cs true inside (block_named m n b)) (sym (inside-slots ss s ks)) ∙ block-named true b inside g
-        ∙ ap (λ (ts : List Ty). maps_in true ts b) (named-inside ss s ks c f)
 
     else-named : (o : numbers.Else) (ss : Scope) → IsElseFound cs ss m o → else_maps cs ss (else_named m (length ss) o) ≡ behind_maps (types_in ss) o
     else-named numbers.no_else ss h = refl

@@ -185,7 +185,7 @@ pub record Scoped (m : Truth) (env : Env) (ss : Scope) : Type 0 where
   pub self : HasSelf m ss
   pub room : length ss < 2 ^ 64
 
-matches-long : (es : List Entry) (ss : Scope) → Matches es ss → length es ≡ length ss
+pub matches-long : (es : List Entry) (ss : Scope) → Matches es ss → length es ≡ length ss
 matches-long [] [] h = refl
 matches-long [] (s ∷ ss) h = absurd h
 matches-long (e ∷ es) [] h = absurd h
