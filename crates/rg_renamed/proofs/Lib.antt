@@ -17,3 +17,4 @@ mod Parameters
 mod Paths
 mod Scopes
 mod Statements
+mod Whole

@@ -67,7 +67,7 @@ earlier-absent x earlier (e ∷ es) h k = (other-name x earlier e.name h.0 k, ea
 -- parameters without a fault have names that differ
 with_params-distinct : (classes : List Class) (earlier : List Name) (ps : List Param) (env : Env) → Distinct env.entries →
     Earlier earlier env.entries →
-    param_headers classes earlier ps ≡ Ok tt → Distinct (with_params classes ps env).entries
+    param_headers classes earlier ps ≡ Ok tt → Distinct (env_params classes ps env).entries
 with_params-distinct classes earlier [] env d e h = d
 with_params-distinct classes earlier (p ∷ ps) env d e h =
     let q = test-then (not (among p.name earlier)) Duplicate _ tt h in
