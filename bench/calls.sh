@@ -55,7 +55,7 @@ NO_MEMORY = {
     "rg_step": "Stepper::new Stepper::heap Stepper::frames Stepper::events Stepper::numbers",
     "rg_input": "*",
     "rg_run": "Machine::new Machine::is_fresh Machine::events Machine::numbers",
-    "rg_top": "shape Status::number",
+    "rg_words": "shape Status::number",
 }
 HEAD = """# All calls, with what each refuses
 
@@ -290,6 +290,7 @@ class Call:
             within = told(inner[2], inner[1], None, self.imports) if inner[1] else told(inner[2] + " result", "result", None, self.imports)
             return bool({refusal, "all"} & {*within}), change if refusal in ("None", "false") else frozenset()
         if m := re.match(r"IfSome result", body): return False, frozenset()
+        if re.match(r"MatchOption result", body): return True, frozenset()
         if m := re.match(r"(OnErr|IfErr|IfNone) result (.*)", body):
             if is_error == (m[1] == "IfNone"): return False, frozenset()
             return speaks_of_cause(m[2]), frozenset() if "Rose" in m[2] else change

@@ -3,10 +3,14 @@ _reggio() {
   local word=${COMP_WORDS[COMP_CWORD]} before=${COMP_WORDS[COMP_CWORD - 1]}
   COMPREPLY=()
   case $COMP_CWORD in
-    1) mapfile -t COMPREPLY < <(compgen -W 'run slide plain check fmt code pack bulk' -- "$word") ;;
+    1) mapfile -t COMPREPLY < <(compgen -W 'run slide plain check fmt code pack exec bulk' -- "$word") ;;
     2)
       case $before in
         bulk) mapfile -t COMPREPLY < <(compgen -W '1000 10000 100000' -- "$word") ;;
+        exec)
+          compopt -o filenames
+          mapfile -t COMPREPLY < <(compgen -f -- "$word")
+          ;;
         *)
           compopt -o filenames
           mapfile -t COMPREPLY < <(compgen -f -X '!*.rg' -- "$word"; compgen -d -- "$word")
@@ -16,8 +20,8 @@ _reggio() {
     *)
       case ${COMP_WORDS[1]},$before in
         *,--steps) mapfile -t COMPREPLY < <(compgen -W '1000 1000000 1000000000' -- "$word") ;;
-        run,--every | slide,--every) mapfile -t COMPREPLY < <(compgen -W '0 1 100 1000' -- "$word") ;;
-        run,* | slide,* | plain,*)
+        run,--every | slide,--every | exec,--every) mapfile -t COMPREPLY < <(compgen -W '0 1 100 1000' -- "$word") ;;
+        run,* | slide,* | exec,* | plain,*)
           local option left='--steps'
           [ "${COMP_WORDS[1]}" != plain ] && left='--steps --every --report'
           for option in $left; do

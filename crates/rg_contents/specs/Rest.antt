@@ -3,6 +3,7 @@ use Rattle.std.specs.Prelude.{◌≡◌, ℕ, List, Some, slice_get, slice_index
 use Rattle.rg_base.specs.declared.words.Cap.TheVariants.{Iso}
 use Rattle.rg_base.specs.declared.ty.Ty.TheVariants.{Ref}
 use Rattle.rg_tree.specs.Tree.{Method, Tree}
+use Rattle.rg_code.specs.Lowering.{method_number}
 use Rattle.rg_cown.specs.Cargo.{CargoList}
 use Rattle.rg_opening.specs.declared.given.Given.{Given}
 use Rattle.rg_opening.specs.Beginning.{MayOwn, MayBegin}
@@ -22,8 +23,9 @@ abbrev pub RestMayBeOwned : Tree → List Cown → List Content → Type 0
 RestMayBeOwned t cowns contents = (n : ℕ) (c : Cown) (x : CargoList) → slice_get cowns n ≡ Some c → slice_index_or contents n Empty ≡ Held x
     → MayOwn t (Ref Iso c.class) x
 
--- a behaviour may begin so: there is a method of its number, with which it may
+-- a behaviour may begin so, with the method of its number, which is that of a name in its class
 pub record IsReady (t : Tree) (b : Behaviour) (given : List Given) : Type 0 where
   pub method : Method
   pub method_is : slice_get (all_methods t.classes) b.method ≡ Some method
   pub may : MayBegin t b.class method given
+  pub number : method_number t.classes b.class may.name ≡ b.method

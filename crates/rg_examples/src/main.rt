@@ -62,7 +62,9 @@ fn examples(rt: &(impl Files + Print + AllocGlobal)) -> io::Result<()> {
     let text = told(writes(rt, "fmt", "every_form.rg", None, "every_form.fmt"));
     println!(rt; "fmt every_form.rg: {text}")?;
     let module = told(writes(rt, "pack", "seven.rg", None, "seven.rgm"));
-    println!(rt; "pack seven.rg: {module}")
+    println!(rt; "pack seven.rg: {module}")?;
+    let run = told(writes(rt, "exec", "seven.rgm", None, "seven.out"));
+    println!(rt; "exec seven.rgm: {run}")
 }
 
 /// A table of rows.

@@ -4,3 +4,4 @@ mod Rights
 mod Statements
 mod Steps
 pub mod Runs
+mod Examples

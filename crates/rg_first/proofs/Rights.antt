@@ -196,7 +196,8 @@ right-keeps classes s u forest target put keeps (new_iso x size m) spares h =
 right-keeps classes s u forest target put keeps (freeze y) spares h =
     let o = bind-ok (object_at s.store (value_in (locals_of s) (Some y))) _ u h in
     consumed-keeps s u put keeps y (option_map (frozen classes s) (region_of o.0.label))
-    (of-region s (region_of o.0.label) (frozen classes s) (λ g e. keeps-relabelled (beneath classes s.store (length s.managers) (g ∷ [])) Frozen s.store
+    (of-region s (region_of o.0.label) (frozen classes s) (λ g e.
+    keeps-relabelled (beneath classes s.store (length s.managers) (g ∷ [])) Frozen s.store
     (not-among _ 0 (not-beneath classes s forest (length s.managers) g (spares o.0 g o.1 e))))) (ok-is _ u o.2)
 right-keeps classes s u forest target put keeps (merge y) spares h =
     let o = bind-ok (object_at s.store (value_in (locals_of s) (Some y))) _ u h in

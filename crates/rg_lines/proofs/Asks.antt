@@ -28,7 +28,7 @@ kind_by : (cs : List Class) (o : Option Right) →
 kind_by cs None = refl
 kind_by cs (Some r) = makes_by cs (right_made r)
 
-item_makes-unlined : (cs : List Class) (i : Item) → item_makes (classes_unlined cs) i ≡ item_makes cs i
+pub item_makes-unlined : (cs : List Class) (i : Item) → item_makes (classes_unlined cs) i ≡ item_makes cs i
 item_makes-unlined cs (Do (stmt line k)) = kind_by cs (right_of k)
 item_makes-unlined cs _ = refl
 

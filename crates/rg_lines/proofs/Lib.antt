@@ -3,7 +3,7 @@ pub mod DoBlocks
 pub mod Types
 mod Judgements
 pub mod Acceptance
-mod Regions
+pub mod Regions
 pub mod Plain
 pub mod Asks
 pub mod AllLines

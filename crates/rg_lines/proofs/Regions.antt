@@ -79,7 +79,7 @@ owned_by-unlined cs o =
     let f : List ℕ → List ℕ = λ ns. elim (o.label) [ Region r ↦ ns | Temp n ↦ ns | Frozen ↦ [] ] in
     ap f (ap (λ fs. owned_in (classes_unlined cs) fs o.fields) (fields_of-unlined cs o.class) ∙ owned_in_by cs (fields_of cs o.class) o.fields)
 
-led_from-unlined : (cs : List Class) (store : List Seen) (test' : Label → Truth) (os : List Seen) →
+pub led_from-unlined : (cs : List Class) (store : List Seen) (test' : Label → Truth) (os : List Seen) →
     led_from (classes_unlined cs) store test' os ≡ led_from cs store test' os
 led_from-unlined cs store test' [] = refl
 led_from-unlined cs store test' (o ∷ os) =
@@ -87,7 +87,7 @@ led_from-unlined cs store test' (o ∷ os) =
     ap (λ ns. f ns (led_from (classes_unlined cs) store test' os)) (owned_by-unlined cs o)
     ∙ ap (f (owned_by cs o)) (led_from-unlined cs store test' os)
 
-beneath-unlined : (cs : List Class) (store : List Seen) (links : ℕ) (regions : List ℕ) →
+pub beneath-unlined : (cs : List Class) (store : List Seen) (links : ℕ) (regions : List ℕ) →
     beneath (classes_unlined cs) store links regions ≡ beneath cs store links regions
 beneath-unlined cs store zero regions = refl
 beneath-unlined cs store (suc k) regions =

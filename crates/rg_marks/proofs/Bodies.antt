@@ -132,7 +132,7 @@ abbrev entered_by : ℕ → Scope → Option Name → (front block : List Op) �
 entered_by line sc giving front block end = i.Mark line ∷ (front ++ (block ++ i.Mark line ∷ leave_op end (length sc) giving ∷ []))
 
 mutual
-  kind_code-unlined : (cs : List Class) (sc : Scope) (at line : ℕ) (k : StmtKind) →
+  pub kind_code-unlined : (cs : List Class) (sc : Scope) (at line : ℕ) (k : StmtKind) →
       kind_code (classes_unlined cs) sc at line k ≡ kind_code cs sc at line k
   kind_code-unlined cs sc at line (declare x t r) =
       ap (λ ops. i.Mark line ∷ ops ++ i.Store (length sc) ∷ pace_code r) (right_code-unlined cs sc (at + 1) r)

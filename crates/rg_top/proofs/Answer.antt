@@ -1,73 +1,25 @@
 -- From what the layers under the top call have answered to the words of the headline.
-use Rattle.std.proofs.Common.{◌≡◌, ◌≢◌, ℕ, suc, ◌<◌, ◌≤◌, ◌⊎◌, inl, inr, Bool, true, false, List, length, replicate, Option, Some, None, refl}
-use Rattle.std.proofs.Common.{sym, ◌∙◌, ap, subst, arith}
+use Rattle.std.proofs.Common.{◌≡◌, ◌≢◌, ℕ, suc, ◌<◌, ◌≤◌, ◌⊎◌, inl, inr, Bool, true, false, List, length, replicate, Option, Some, None, refl, sym}
+use Rattle.std.proofs.Common.{◌∙◌, ap, subst, arith}
 use Rattle.std.specs.Bool.{OnTrue, OnFalse}
 use Rattle.std.proofs.lemmas.List.{length-replicate}
-use Rattle.rg_base.specs.declared.limits.TheConstants.{SOURCE_BYTES}
 use Rattle.rg_io.specs.Content.{Rose}
-use Rattle.rg_io.specs.Files.{Told, HasLongFile}
+use Rattle.rg_io.specs.Files.{Told}
 use Rattle.rg_io.proofs.Content.{Rose-since}
-use Rattle.rg_run.specs.Machine.{Kept, IsFresh, numbers_of}
-use Rattle.rg_top.specs.declared.status.Status.{Status}
-use Rattle.rg_top.specs.declared.status.Status.TheVariants as status
-use Rattle.rg_top.specs.Commands.{Command, command, Origin, in_file, origin_of, reads_input, may_read, opens_file, may_open}
-use Rattle.rg_top.specs.Statuses.{is_answer, is_refusal, is_cut_off, is_from_outside}
-use Rattle.rg_top.specs.Expected.{HasSource, ExpectsStatus}
-use Rattle.rg_top.specs.Headline.{ForInput, ForSource, Exactly, ExactlyWhere, Answers, Untouched, CutOffAt, CutAtInput}
-use Rattle.rg_top.specs.Headline.{IsExpected, MayTell}
-use Rattle.rg_top.specs.Inner.Settled.{Settles, Unread, source_fault, memory, SettlesCommand, Refuses, Caused, Tunes, Chooses, Becomes}
-use Rattle.rg_top.proofs.Meaning.{expects-one, refusal-any}
+use Rattle.rg_run.specs.Machine.{Kept, numbers_of}
+use Rattle.rg_words.specs.declared.status.Status.{Status}
+use Rattle.rg_words.specs.declared.status.Status.TheVariants as status
+use Rattle.rg_words.specs.Commands.{Command, command, origin_of, reads_input, may_read, opens_file, may_open}
+use Rattle.rg_words.specs.Statuses.{is_answer, is_refusal, is_cut_off, is_from_outside}
+use Rattle.rg_commands.specs.Expected.{HasSource, ExpectsStatus}
+use Rattle.rg_commands.specs.CutOff.{ForInput, Untouched, CutOffAt, CutAtInput}
+use Rattle.rg_top.specs.Headline.{ForSource, Exactly, ExactlyWhere, Answers, IsExpected, MayTell}
+use Rattle.rg_commands.specs.Laws.{OneAnswer}
+use Rattle.rg_commands.specs.Settled.{Settles, Unread, source_fault, memory, SettlesCommand, Tunes, Chooses}
+use Rattle.rg_top.specs.Inner.Told.{Becomes}
+use Rattle.rg_commands.proofs.Meaning.{expects-one, refusal-any}
 use Rattle.rg_top.proofs.Settled.{answers-of, cut-of, status-of}
-use Rattle.rg_top.proofs.Bulk.{no-fault}
 use Rattle.rg_top.proofs.NoteLines.{rose-then}
-
--- there are lists of any length
-long-list : (n : ℕ) → (source : List ℕ) × (n < length source)
-long-list n = (replicate (suc n) 0, omega (arith, length-replicate {A = ℕ} (suc n) 0))
-
--- a file that is too long is read as some source that is
-pub long-refuses : (told : Option Told) (file : List ℕ) → HasLongFile told file SOURCE_BYTES → Refuses told (in_file file) status.Long
-long-refuses None file h = let l = long-list SOURCE_BYTES in (l.0, tt, l.1)
-long-refuses (Some t) file h = h
-
--- where no program came, nothing is done
-pub refuses-settles : (told : Option Told) (c : Command) (s : Status) (left old : Option (List ℕ)) (m : Kept) (still : Type 0) →
-    Refuses told (origin_of c) s → IsFresh m → still → SettlesCommand told c left s old old m still
-refuses-settles told c status.Done left old m still h fresh quiet = absurd h
-refuses-settles told c (status.Refused f) left old m still h fresh quiet = inl (h.0, h.1, (inl h.2, (fresh, refl, quiet)))
-refuses-settles told c status.Usage left old m still h fresh quiet = absurd h
-refuses-settles told c (status.Trap kind line) left old m still h fresh quiet = absurd h
-refuses-settles told c status.Spent left old m still h fresh quiet = absurd h
-refuses-settles told c status.SourceFault left old m still h fresh quiet = inr (source_fault, (fresh, refl, quiet))
-refuses-settles told c status.InputFault left old m still h fresh quiet = absurd h
-refuses-settles told c status.OutputFault left old m still h fresh quiet = absurd h
-refuses-settles told c status.Memory left old m still h fresh quiet = inr (memory, (fresh, refl, quiet))
-refuses-settles told c status.Long left old m still h fresh quiet = inl (h.0, h.1, (h.2, (fresh, refl, quiet)))
-
--- and neither the input nor the output or the notes failed
-pub refuses-caused : (told : Option Told) (origin : Origin) (s : Status) (i o n : ℕ) → Refuses told origin s → Caused s i i o o n n
-refuses-caused told origin s i o n h = record {
-  input_fault = λ e. let P : Status → Type 0 = Refuses told origin in absurd (subst P e h);
-  output_fault = λ e. let P : Status → Type 0 = Refuses told origin in absurd (subst P e h);
-  input_never_falls = omega arith;
-  output_never_falls = omega arith;
-  notes_never_fall = omega arith;
-}
-
--- an input that never fails is as good as one that didn't
-pub caused-unread : (s : Status) (i o p n m : ℕ) → Caused s 0 0 o p n m → Caused s i i o p n m
-caused-unread s i o p n m c = record {
-  input_fault = λ e. absurd (no-fault s c.input_fault e);
-  output_fault = c.output_fault;
-  input_never_falls = omega arith;
-  output_never_falls = c.output_never_falls;
-  notes_never_fall = c.notes_never_fall;
-}
-
--- what was answered to a source is no fault of a file
-pub settles-inside : (c : Command) (source : List ℕ) (left : Option (List ℕ)) (s : Status) (old new : Option (List ℕ)) (m : Kept) (still : Type 0) →
-    Settles c source left s old new m still → s ≢ status.SourceFault
-settles-inside c source left s old new m still h e = let P : Status → Type 0 = λ x. Settles c source left x old new m still in absurd (subst P e h)
 
 -- facts on the status that the layers under the top call gave, on an output fault and on want of memory hold of what was told
 pub told-status : (P : Status → Type 0) (given answer : Status) → P given → P status.OutputFault → P status.Memory → Becomes given answer → P answer
@@ -138,7 +90,8 @@ answer-inside status.Memory h = cc
 answer-inside status.Long h = refl
 
 -- a status comes exactly where it is expected: it is what was given, or that was cut off
-module _ (told : Option Told) (left : Option (List ℕ)) (words : List (List ℕ)) (given s : Status) (answers : is_answer s ≡ true) where
+module _ (law : OneAnswer) (told : Option Told) (left : Option (List ℕ)) (words : List (List ℕ)) (given s : Status)
+    (answers : is_answer s ≡ true) where
   outside-exactly : (behind : Option (List ℕ)) → is_from_outside given ≡ true → ExactlyWhere told behind words given s
   outside-exactly behind o = record {
     only = λ e. let n : is_from_outside given ≡ false = ap is_from_outside e ∙ answer-inside s answers in absurd (cc);
@@ -152,7 +105,7 @@ module _ (told : Option Told) (left : Option (List ℕ)) (words : List (List ℕ
     always = λ d again all.
         let same : d ≡ c = cc in
         let Q : Command → Type 0 = λ x. HasSource told (origin_of x) source → ExpectsStatus x source input s in
-        inl (expects-one c source input given s expects (subst Q same (λ h. all source input h is) has));
+        inl (expects-one law c source input given s expects (subst Q same (λ h. all source input h is) has));
   }
   exactly-where (inr o) = outside-exactly left o
 
@@ -168,7 +121,7 @@ module _ (told : Option Told) (left : Option (List ℕ)) (words : List (List ℕ
         let same : d ≡ c = cc in
         let Q : Command → Type 0 = λ x. HasSource told (origin_of x) source → ExpectsStatus x source bytes s in
         let there = subst Q same (λ h. all source bytes h refl) has in
-        inl (expects-one c source input given s expects (refusal-any c source bytes input s refuses there));
+        inl (expects-one law c source input given s expects (refusal-any c source bytes input s refuses there));
   }
   exactly-refused refuses bytes (inr o) = outside-exactly (Some bytes) o
 
@@ -255,19 +208,21 @@ module _ {told : Option Told} {left : Option (List ℕ)} {words : List (List ℕ
       file-input told left words a.asked given old new m still a.command_is (given-is given answer a.told_is (λ o. cc) (λ o. cc) ∙ e) a.settles
 
   -- each answer to a source comes exactly where it is expected
-  pub answer-exactly : (s : Status) → is_answer s ≡ true → ExactlyWhere told left words answer s
-  answer-exactly s i =
+  pub answer-exactly : OneAnswer → (s : Status) → is_answer s ≡ true → ExactlyWhere told left words answer s
+  answer-exactly law s i =
       told-status (λ x. ExactlyWhere told left words x s) given answer
-      (exactly-where told left words given s i (file-status told left words a.asked given old new m still a.command_is a.settles))
-      (outside-exactly told left words status.OutputFault s i left refl) (outside-exactly told left words status.Memory s i left refl) a.told_is
+      (exactly-where law told left words given s i (file-status told left words a.asked given old new m still a.command_is a.settles))
+      (outside-exactly law told left words status.OutputFault s i left refl) (outside-exactly law told left words status.Memory s i left refl)
+      a.told_is
 
   -- and a refusal whatever the input has
-  pub answer-refused : (s : Status) → is_answer s ≡ true → is_refusal s ≡ true → (bytes : List ℕ) → ExactlyWhere told (Some bytes) words answer s
-  answer-refused s i r bytes =
+  pub answer-refused : OneAnswer → (s : Status) → is_answer s ≡ true → is_refusal s ≡ true → (bytes : List ℕ) →
+      ExactlyWhere told (Some bytes) words answer s
+  answer-refused law s i r bytes =
       told-status (λ x. ExactlyWhere told (Some bytes) words x s) given answer
-      (exactly-refused told left words given s i r bytes (file-status told left words a.asked given old new m still a.command_is a.settles))
-      (outside-exactly told left words status.OutputFault s i (Some bytes) refl)
-      (outside-exactly told left words status.Memory s i (Some bytes) refl) a.told_is
+      (exactly-refused law told left words given s i r bytes (file-status told left words a.asked given old new m still a.command_is a.settles))
+      (outside-exactly law told left words status.OutputFault s i (Some bytes) refl)
+      (outside-exactly law told left words status.Memory s i (Some bytes) refl) a.told_is
 
   -- where no count rose, the answer is the expected one, or there was no memory
   pub answer-complete : (F I O N : Type 0) → (answer ≡ status.SourceFault → F) → (answer ≡ status.InputFault → I) →

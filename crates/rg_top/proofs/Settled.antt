@@ -1,10 +1,9 @@
 -- What the layers under the top call have answered to a source, in the words of the headline.
-use Rattle.std.proofs.Common.{◌≡◌, ℕ, ◌+◌, ◌⊎◌, inl, inr, Bool, true, false, List, [], ◌∷◌, ◌++◌, ◌-◌, Option, Some, None, refl}
-use Rattle.std.proofs.Common.{sym, ◌∙◌, ap, subst, arith, append-nil, append_assoc}
+use Rattle.std.proofs.Common.{◌≡◌, ℕ, ◌+◌, ◌⊎◌, inl, inr, Bool, true, false, List, [], ◌∷◌, ◌++◌, ◌-◌, Option, Some, None, refl, sym, ◌∙◌, ap, subst}
+use Rattle.std.proofs.Common.{arith, append-nil, append_assoc}
 use Rattle.std.specs.Bool.{OnTrue}
 use Rattle.rg_base.specs.declared.fault.Fault.{Fault}
 use Rattle.rg_base.specs.declared.limits.TheConstants.{MOST_STEPS}
-use Rattle.rg_base.specs.declared.outcome.EndNumbers.{EndNumbers}
 use Rattle.rg_base.specs.Text.{text}
 use Rattle.rg_io.specs.Content.{Appends, AppendsPart, IsPrefix}
 use Rattle.rg_tree.specs.Tree.{Tree}
@@ -13,36 +12,28 @@ use Rattle.rg_tree.specs.Rows.RowTrees.{program_of, classes_of}
 use Rattle.rg_tree.specs.Canonical.{canon}
 use Rattle.rg_rules.specs.Acceptance.{Accepted, first_fault}
 use Rattle.rg_rules.specs.State.{State}
-use Rattle.rg_rules.specs.Runs.{Ending, Running, Done, Stopped, opening}
+use Rattle.rg_rules.specs.Runs.{Done, opening}
 use Rattle.rg_rules.specs.Runs as rules
-use Rattle.rg_rules.specs.Outside.Texts.{text_of, added}
+use Rattle.rg_rules.specs.Outside.Texts.{added}
 use Rattle.rg_run.specs.Machine.{Kept, IsFresh, Shows, numbers_of}
 use Rattle.rg_run.specs.Sound.{IsSound, Stands, NeverAsks}
 use Rattle.rg_run.proofs.Sound.{run-is-sound, stands-shown}
-use Rattle.rg_run.proofs.Run.{run-of, wrote-whole, text-part, text-split}
-use Rattle.rg_top.specs.declared.status.Status.{Status}
-use Rattle.rg_top.specs.declared.status.Status.TheVariants as status
-use Rattle.rg_top.specs.Commands.{Command, run, plain, fmt, check, code, pack, bulk, in_file, origin_of, reads_input}
-use Rattle.rg_top.specs.Statuses.{is_answer, is_from_outside}
-use Rattle.rg_top.specs.Expected.{too_long, faulty, spelt, MeansFrom, status_of, accepted_text, listed_text, packed_text, text_after}
-use Rattle.rg_top.specs.Expected.{line_behind, run_answer, unless_fault, ExpectsStatus}
-use Rattle.rg_top.specs.Headline.{ForInput, IfAccepted, RunStands, Answers, Untouched, StandsAfter, bulk_added, AsksAfter, CutOffAt, CutAtInput}
-use Rattle.rg_top.specs.Inner.Settled.{RanWhole, RanBeside, RanGenerated, EndsWell, StopsRun, IsFaulted, CutOff, Settles}
+use Rattle.rg_run.proofs.Run.{run-of, wrote-whole, text-part}
+use Rattle.rg_words.specs.declared.status.Status.{Status}
+use Rattle.rg_words.specs.declared.status.Status.TheVariants as status
+use Rattle.rg_words.specs.Commands.{Command, run, plain, fmt, check, code, pack, bulk, exec, in_file, in_module, origin_of}
+use Rattle.rg_words.specs.Statuses.{is_answer, is_from_outside}
+use Rattle.rg_commands.specs.Expected.{too_long, faulty, spelt, MeansFrom, status_of, accepted_text, listed_text, packed_text, text_after}
+use Rattle.rg_commands.specs.Expected.{line_behind, run_answer, unless_fault, ExpectsStatus}
+use Rattle.rg_commands.specs.CutOff.{ForInput, Untouched, StandsAfter, AsksAfter, CutOffAt, CutAtInput}
+use Rattle.rg_top.specs.Headline.{IfAccepted, RunStands, Answers}
+use Rattle.rg_commands.specs.Settled.{RanWhole, RanBeside, RanGenerated, EndsWell, StopsRun, IsFaulted, CutOff, Settles}
+use Rattle.rg_commands.proofs.Settled.{untouched-text, bulk-stands}
 
 -- the source of an input has some bytes
 pub for-input : (left : Option (List ℕ)) (P : List ℕ → Type 0) → ((input : List ℕ) → P input) → ForInput left P
 for-input None P h = ([], tt, h [])
 for-input (Some bytes) P h = (bytes, refl, h bytes)
-
-no_lie : true ≡ false → ⊥
-no_lie e = cc
-
-no_front : (b : ℕ) (bs : List ℕ) → [] ≡ b ∷ bs → ⊥
-no_front b bs e = cc
-
-pub untouched-text : (old new : Option (List ℕ)) → new ≡ old → Appends old new []
-untouched-text None new e = e
-untouched-text (Some xs) new e = e ∙ ap Some (sym (append-nil xs))
 
 whole-part : (old new : Option (List ℕ)) (text : List ℕ) → Appends old new text → AppendsPart old new text
 whole-part old new text h = (text, record { rest = []; whole_is = sym (append-nil text) }, h)
@@ -67,6 +58,25 @@ answers-ran : (slides : Bool) (file : List ℕ) (n every : ℕ) (report : Bool) 
     RanWhole (in_file file) n source left s old new m still → ForInput left
     (λ input. Answers (run slides file n every report) source input s old new m still)
 answers-ran slides file n every report source left s old new m still r =
+    let t = program_of r.tables in (
+      r.input,
+      r.input_is,
+      record {
+        meaning = spelt t;
+        means = r.runs.means;
+        text = text_after t r.input n;
+        expects = ran-answer t r.input n s r.runs.accepted r.status_is;
+        wrote = r.wrote;
+        leaves = if-accepted (first_fault t) (RunStands t r.input n m × (NeverAsks t r.input n → still)) (IsFresh m × still) r.runs.accepted
+            ((r.tables, refl, r.stands), r.unread);
+      },
+    )
+
+answers-exec : (file : List ℕ) (n every : ℕ) (report : Bool) (source : List ℕ) (left : Option (List ℕ)) (s : Status)
+    (old new : Option (List ℕ)) (m : Kept) (still : Type 0) →
+    RanWhole (in_module file) n source left s old new m still → ForInput left
+    (λ input. Answers (exec file n every report) source input s old new m still)
+answers-exec file n every report source left s old new m still r =
     let t = program_of r.tables in (
       r.input,
       r.input_is,
@@ -156,6 +166,8 @@ answers-well (pack file) source left old new m still r =
       leaves = r.fresh;
     })
 answers-well (bulk size) source left old new m still r = answers-generated size source left status.Done old new m still r
+answers-well (exec file n every report) source left old new m still r =
+    answers-exec file n every report source left status.Done old new m still r
 
 answers-stops : (c : Command) (source : List ℕ) (left : Option (List ℕ)) (s : Status) (old new : Option (List ℕ)) (m : Kept) (still : Type 0) →
     StopsRun c source left s old new m still → ForInput left (λ input. Answers c source input s old new m still)
@@ -167,6 +179,7 @@ answers-stops (check file) source left s old new m still r = absurd r
 answers-stops (code file) source left s old new m still r = absurd r
 answers-stops (pack file) source left s old new m still r = absurd r
 answers-stops (bulk size) source left s old new m still r = answers-generated size source left s old new m still r
+answers-stops (exec file n every report) source left s old new m still r = answers-exec file n every report source left s old new m still r
 
 -- a source with a fault is refused
 answers-refused : (c : Command) (source input : List ℕ) (f : Fault) (old new : Option (List ℕ)) (m : Kept) (still : Type 0) →
@@ -222,6 +235,7 @@ answers-refused (pack file) source input f old new m still u (inr h) = record {
   leaves = u.0;
 }
 answers-refused (bulk size) source input f old new m still u (inr h) = absurd h
+answers-refused (exec file n every report) source input f old new m still u (inr h) = absurd h
 
 -- what was answered, where nothing cut it off
 pub answers-of : (c : Command) (source : List ℕ) (left : Option (List ℕ)) (s : Status) (old new : Option (List ℕ)) (m : Kept) (still : Type 0) →
@@ -263,6 +277,13 @@ stands-whole t input n m old new accepted shown wrote =
       wrote = wrote-whole t input r.0 old new (subst Q (ap (λ s. text s.output) (sym r.1.state)) wrote);
     })
 
+cut-exec : (file : List ℕ) (n every : ℕ) (report : Bool) (source : List ℕ) (left : Option (List ℕ)) (s : Status)
+    (old new : Option (List ℕ)) (m : Kept) (still : Type 0) →
+    RanWhole (in_module file) n source left s old new m still → ForInput left
+    (λ input. CutOffAt (exec file n every report) source input m old new still)
+cut-exec file n every report source left s old new m still r =
+    (r.input, r.input_is, (r.tables, r.runs, stands-whole r.tables r.input n m old new r.runs.accepted r.stands r.wrote, r.unread))
+
 cut-ran : (slides : Bool) (file : List ℕ) (n every : ℕ) (report : Bool) (source : List ℕ) (left : Option (List ℕ)) (s : Status)
     (old new : Option (List ℕ)) (m : Kept) (still : Type 0) →
     RanWhole (in_file file) n source left s old new m still → ForInput left
@@ -277,45 +298,6 @@ cut-beside file n source left s old new m still r = (
   r.input_is,
   (r.tree, r.runs, r.fresh, whole-part old new _ r.wrote, run-is-sound r.tree r.runs.accepted r.input n, r.unread),
 )
-
--- the line behind a run is nothing, or that behind the same run of as many steps as it made
-line-made : (size : ℕ) (numbers : EndNumbers) (e f : Ending) (part : List ℕ) → (e ≡ Done → f ≡ Done) → IsPrefix part (line_behind size numbers e) →
-    IsPrefix part (line_behind size numbers f)
-line-made size numbers Running f [] same p = record { rest = line_behind size numbers f; whole_is = refl }
-line-made size numbers Running f (b ∷ bs) same p = absurd (no_front b (bs ++ p.rest) p.whole_is)
-line-made size numbers Done f part same p = let P : Ending → Type 0 = λ g. IsPrefix part (line_behind size numbers g) in subst P (sym (same refl)) p
-line-made size numbers (Stopped kind line) f [] same p = record { rest = line_behind size numbers f; whole_is = refl }
-line-made size numbers (Stopped kind line) f (b ∷ bs) same p = absurd (no_front b (bs ++ p.rest) p.whole_is)
-
--- a prefix goes on behind a front
-pub prefix-behind : (front part whole : List ℕ) → IsPrefix part whole → IsPrefix (front ++ part) (front ++ whole)
-prefix-behind front part whole p =
-    record { rest = p.rest; whole_is = ap (λ q. front ++ q) p.whole_is ∙ sym (append_assoc front part p.rest) }
-
--- a run of `bulk` that has written all its text, and a part of its line, stands at a whole step of it
-pub bulk-stands : (size : ℕ) (t : Tables) (n : ℕ) (m : Kept) (part : List ℕ) (old new : Option (List ℕ)) → Accepted (program_of t) →
-    Stands t [] n m → IsPrefix part (line_behind size (numbers_of m) (rules.plain (program_of t) [] n).ending) →
-    Appends old new (text_after (program_of t) [] n ++ part) → StandsAfter t [] n m.steps m (bulk_added size t m.steps m) old new
-bulk-stands size t n m part old new accepted shown prefix wrote =
-    let s = opening (program_of t) [] in
-    let r = run-of (classes_of t) n 0 s in
-    let from : 0 + r.0 ≡ r.0 = omega arith in
-    let k : m.steps ≡ r.0 = shown.steps ∙ r.1.steps ∙ from in
-    let P : State → Type 0 = λ x. Shows t m x in
-    let Q : List ℕ → Type 0 = λ bytes. Appends old new bytes in
-    let R : ℕ → Type 0 = λ j. StandsAfter t [] n j m (bulk_added size t j m) old new in
-    let all : text_after (program_of t) [] n ≡ text_of t s (r.0 - 1) ++ added t s r.0 =
-    ap (λ x. text x.output) (sym r.1.state) ∙ sym (text-split t [] r.0) in
-    subst R (sym k) (record {
-      within = r.1.within;
-      made = r.1.made_steps ∙ from;
-      stands = stands-shown t [] r.0 m accepted (subst P (sym r.1.state) shown.shows) (k ∙ sym (r.1.made_steps ∙ from)) shown.told;
-      wrote = (
-        added t s r.0 ++ part,
-        prefix-behind (added t s r.0) part _ (line-made size (numbers_of m) _ _ part r.1.done prefix),
-        subst Q (ap (λ q. q ++ part) all ∙ append_assoc (text_of t s (r.0 - 1)) (added t s r.0) part) wrote,
-      );
-    })
 
 -- a list is a prefix of itself
 all-prefix : (xs : List ℕ) → IsPrefix xs xs
@@ -336,6 +318,7 @@ cut-well (check file) source left old new m still r = (r.tree, r.runs, r.fresh, 
 cut-well (code file) source left old new m still r = (r.tree, r.runs, r.fresh, whole-part old new _ r.wrote)
 cut-well (pack file) source left old new m still r = (r.tree, r.runs, r.fresh, whole-part old new _ r.wrote)
 cut-well (bulk size) source left old new m still r = cut-generated size source status.Done old new m [] still r
+cut-well (exec file n every report) source left old new m still r = cut-exec file n every report source left status.Done old new m still r
 
 cut-stops : (c : Command) (source : List ℕ) (left : Option (List ℕ)) (s : Status) (old new : Option (List ℕ)) (m : Kept) (still : Type 0) →
     StopsRun c source left s old new m still → CutOff c source left old new m still
@@ -347,6 +330,10 @@ cut-stops (check file) source left s old new m still r = absurd r
 cut-stops (code file) source left s old new m still r = absurd r
 cut-stops (pack file) source left s old new m still r = absurd r
 cut-stops (bulk size) source left s old new m still r = cut-generated size source s old new m [] still r
+cut-stops (exec file n every report) source left s old new m still r = cut-exec file n every report source left s old new m still r
+
+no_lie : true ≡ false → ⊥
+no_lie e = cc
 
 -- one of the steps asks
 asked : (t : Tree) (input : List ℕ) (n k : ℕ) (old new : Option (List ℕ)) (still : Type 0) → AsksAfter t input n k old new →
@@ -392,6 +379,23 @@ cut-input (check file) source left old new m still h = absurd h.2
 cut-input (code file) source left old new m still h = absurd h.2
 cut-input (pack file) source left old new m still h = absurd h.2
 cut-input (bulk size) source left old new m still h = absurd h.2
+cut-input (exec file n every report) source left old new m still h =
+    let t = h.2.0 in
+    let asks = h.2.3 in (
+      h.0,
+      h.1,
+      (
+        t,
+        h.2.1,
+        record {
+          within = omega (arith, asks.before);
+          made = asks.made;
+          stands = h.2.2;
+          wrote = wrote-whole t h.0 m.steps old new asks.wrote;
+        },
+        asked (program_of t) h.0 n m.steps old new still asks,
+      ),
+    )
 
 cut-at : (c : Command) (source : List ℕ) (left old new : Option (List ℕ)) (m : Kept) (still : Type 0) → CutOff c source left old new m still →
     ForInput left (λ input. CutOffAt c source input m old new still)
@@ -402,6 +406,7 @@ cut-at (check file) source left old new m still h = for-input left _ (λ input. 
 cut-at (code file) source left old new m still h = for-input left _ (λ input. h)
 cut-at (pack file) source left old new m still h = for-input left _ (λ input. h)
 cut-at (bulk size) source left old new m still h = for-input left _ (λ input. h)
+cut-at (exec file n every report) source left old new m still h = h
 
 untouched-or : (c : Command) (source : List ℕ) (left old new : Option (List ℕ)) (m : Kept) (still : Type 0) →
     Untouched m old new still ⊎ CutOff c source left old new m still →
@@ -447,48 +452,3 @@ status-of c source left s old new m still h = go s h (answers-of c source left s
     go status.OutputFault h a = inr refl
     go status.Memory h a = inr refl
     go status.Long h a = inl (expects status.Long a)
-
--- what a command that reads no input answered holds beside what is still as it was
-module _ (source : List ℕ) (left old new : Option (List ℕ)) (m : Kept) (still : Type 0) (quiet : still) where
-  untouched-still : (c : Command) → Untouched m old new (Unit {0}) ⊎ CutOff c source left old new m (Unit {0}) → reads_input c ≡ false →
-      Untouched m old new still ⊎ CutOff c source left old new m still
-  untouched-still c (inl u) e = inl (u.0, u.1, quiet)
-  untouched-still (run slides file n every report) (inr h) e = absurd (no_lie e)
-  untouched-still (plain file n) (inr h) e = absurd (no_lie e)
-  untouched-still (fmt file) (inr h) e = inr h
-  untouched-still (check file) (inr h) e = inr h
-  untouched-still (code file) (inr h) e = inr h
-  untouched-still (pack file) (inr h) e = inr h
-  untouched-still (bulk size) (inr h) e = inr h
-
-  well-still : (c : Command) → EndsWell c source left old new m (Unit {0}) → reads_input c ≡ false → EndsWell c source left old new m still
-  well-still (run slides file n every report) h e = absurd (no_lie e)
-  well-still (plain file n) h e = absurd (no_lie e)
-  well-still (fmt file) h e = h
-  well-still (check file) h e = h
-  well-still (code file) h e = h
-  well-still (pack file) h e = h
-  well-still (bulk size) h e = h
-
-  stops-still : (c : Command) (s : Status) → StopsRun c source left s old new m (Unit {0}) → reads_input c ≡ false →
-      StopsRun c source left s old new m still
-  stops-still (run slides file n every report) s h e = absurd (no_lie e)
-  stops-still (plain file n) s h e = absurd (no_lie e)
-  stops-still (fmt file) s h e = absurd h
-  stops-still (check file) s h e = absurd h
-  stops-still (code file) s h e = absurd h
-  stops-still (pack file) s h e = absurd h
-  stops-still (bulk size) s h e = h
-
-  pub settles-still : (c : Command) (s : Status) → reads_input c ≡ false → Settles c source left s old new m (Unit {0}) →
-      Settles c source left s old new m still
-  settles-still c status.Done e h = well-still c h e
-  settles-still c (status.Refused f) e h = (h.0, (h.1.0, h.1.1, quiet))
-  settles-still c status.Usage e h = h
-  settles-still c (status.Trap kind line) e h = stops-still c (status.Trap kind line) h e
-  settles-still c status.Spent e h = stops-still c status.Spent h e
-  settles-still c status.SourceFault e h = h
-  settles-still c status.InputFault e h = h
-  settles-still c status.OutputFault e h = untouched-still c h e
-  settles-still c status.Memory e h = untouched-still c h e
-  settles-still c status.Long e h = (h.0, (h.1.0, h.1.1, quiet))

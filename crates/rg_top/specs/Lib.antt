@@ -1,7 +1,3 @@
--- The definitions that the clauses of rg_top name, and Inner, which may not be cited above (docs/promises.md, "The headline").
-pub mod Commands
-pub mod Statuses
-pub mod Expected
+-- The words of the headline, and Inner, which may not be cited above (docs/promises.md, "The headline").
 pub mod Headline
-pub mod Asked
 pub mod Inner

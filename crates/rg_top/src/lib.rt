@@ -1,19 +1,17 @@
 //! The top call (docs/promises.md, "The headline"). `reggio` goes from words, files and input to
 //! output, notes and a `Status`, on a fresh `Machine`, with any pacers: what it writes and leaves
 //! are the clauses `answered`, `untouched`, `cut_off`, `cut_at_input` and `notes`, and from which
-//! cause each status comes are `done` to `long`. `shape` says whether words are a command, `tell`
-//! gives a status's text to the notes. `run_process` is a whole process, `main`'s one call.
+//! cause each status comes are `done` to `long`. `rg_words` reads the words, and `rg_commands` does
+//! what they ask for; here the status is told to the notes (`tell`). `run_process` is a whole
+//! process, `main`'s one call.
 #![tactic(auto)]
 
 mod notes;
 mod process;
-mod setting;
-mod status;
 mod top;
-mod words;
 
 pub use notes::tell;
 pub use process::run_process;
-pub use status::Status;
+pub use rg_commands::answers_are_one;
+pub use rg_words::{MODULE_BYTES, Status, shape};
 pub use top::reggio;
-pub use words::shape;

@@ -7,26 +7,28 @@ ghost use Rattle.arrayvec.specs.ArrayVec.{array_vec_len};
 ghost use Rattle.rg_io.specs.Content.{Rose, Appends, AppendsPart};
 ghost use Rattle.rg_run.specs.Machine.{Kept, numbers_of};
 ghost use Rattle.rg_top.specs.Headline.{TookNotes, ToldFault};
-ghost use Rattle.rg_top.specs.Inner.Settled.{Reported, Gave, Becomes};
-ghost use Rattle.rg_top.specs.Inner.Setting.{IsLent};
+ghost use Rattle.rg_commands.specs.Settled.{Reported};
+ghost use Rattle.rg_top.specs.Inner.Told.{Gave, Becomes};
+ghost use Rattle.rg_commands.specs.Setting.{IsLent};
 ghost use Rattle.rg_base.specs.Report as report;
-ghost use Rattle.rg_top.specs.Statuses.{status_text, trap_text, ends_run};
+ghost use Rattle.rg_words.specs.Statuses.{status_text, trap_text, ends_run};
 
-use crate::setting::Setting;
-use crate::status::Status;
 use arrayvec::ArrayVec;
 use rg_base::Trap;
 use rg_check::code_text;
+use rg_commands::Setting;
 use rg_io::{Failed, Sink, put_all};
 use rg_report::end_line;
 use rg_run::Machine;
+use rg_words::Status;
 use std::alloc::Global;
 
 /// How the program is called.
 pub(crate) const USAGE: &[u8] =
     b"usage: reggio run FILE [--steps N] [--every N] [--report]; check FILE; fmt FILE; \
     code FILE; plain FILE [--steps N]; bulk N; \
-    slide FILE [--steps N] [--every N] [--report]; pack FILE\n";
+    slide FILE [--steps N] [--every N] [--report]; pack FILE; \
+    exec FILE [--steps N] [--every N] [--report]\n";
 
 /// The words of a trap.
 fn trap_words(kind: Trap) -> &'static [u8]

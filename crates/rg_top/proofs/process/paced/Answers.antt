@@ -1,7 +1,7 @@
 -- The call is that of `reggio`, or no memory was found for its pacers.
 use Rattle.std.proofs.Common.{◌≡◌, None}
 use Rattle.rg_io.specs.Content.{Rose}
-use Rattle.rg_top.specs.Commands.{command, texts, may_report}
+use Rattle.rg_words.specs.Commands.{command, texts, may_report}
 use Rattle.rg_top.specs.Headline.{MayTell, steps_asked}
 use Rattle.rg_top.proofs.Answer.{answers-expected, may-any}
 use Rattle.rg_top.proofs.NoteLines.{took-may, memory-notes}

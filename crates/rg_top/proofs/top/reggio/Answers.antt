@@ -3,15 +3,16 @@ use Rattle.std.proofs.Common.{◌≡◌, ◌≤◌, ◌⊎◌, ℕ, inl, refl, �
 use Rattle.rg_io.specs.Content.{Rose}
 use Rattle.rg_io.proofs.Content.{Rose-since}
 use Rattle.rg_run.specs.Machine.{Kept}
-use Rattle.rg_top.specs.declared.status.Status.TheVariants as status
-use Rattle.rg_top.specs.Commands.{texts}
-use Rattle.rg_top.specs.Inner.Requests.{command_of}
-use Rattle.rg_top.specs.Inner.Settled.{Chooses}
-use Rattle.rg_top.proofs.Answer.{Answered, answer-answered, answer-cut, answer-input, answer-exactly, answer-refused, answer-complete}
-use Rattle.rg_top.proofs.Answer.{answer-unread, answer-unopened, answer-untouched, answer-output, answer-tuned, answer-usage, given-is}
-use Rattle.rg_top.proofs.Answer.{answer-chooses, tuned-moved, answer-may, settles-moved, usage-exactly}
+use Rattle.rg_words.specs.declared.status.Status.TheVariants as status
+use Rattle.rg_words.specs.Commands.{texts}
+use Rattle.rg_words.specs.Requests.{command_for}
+use Rattle.rg_commands.specs.Settled.{Chooses}
+use Rattle.rg_top.proofs.Answer.{Answered, answer-answered, answer-cut, answer-input, answer-exactly, answer-refused, answer-complete, answer-unread}
+use Rattle.rg_top.proofs.Answer.{answer-unopened, answer-untouched, answer-output, answer-tuned, answer-usage, given-is, answer-chooses, tuned-moved}
+use Rattle.rg_top.proofs.Answer.{answer-may, settles-moved, usage-exactly}
 use Rattle.rg_top.proofs.NoteLines.{asked-notes, asked-fault, unasked-notes, took-moved}
-use Rattle.rg_top.proofs.Asked.{asked-words, asked-moved, yeses-fresh}
+use Rattle.rg_top.proofs.Asked.{asked-words, asked-moved}
+use Rattle.rg_commands.proofs.Asked.{yeses-fresh}
 use Rattle.rg_top.proofs.top.reggio.Given.{Over}
 use Rattle.rg_top.proofs.top.reggio.Goals as goal
 
@@ -21,7 +22,7 @@ answered : (g : Over) (c : goal.After-is_owned-in-Some g) {out : Option (List �
     Answered (g.F.Files.told c.args.files.now) (g.I.Source.left c.args.input.now) (texts c.args.words.now) c.answer-status.result
     c.tell_behind-told.result (g.O.Sink.taken c.args.out.now) out m (c.answer-status.new.input ≡ c.args.input.now)
 answered g c out_is machine_is = record {
-  asked = command_of c.in-Some.request;
+  asked = command_for c.in-Some.task;
   command_is = c.in-Some.ensures.is;
   settles = settles-moved _ _ _ _ _ _ _ _ _ _ out_is machine_is c.answer-status.ensures.settles;
   told_is = c.tell_behind-told.ensures.told;
@@ -57,7 +58,7 @@ returns-in-Some-clause-notes_never_fall g c =
 pub returns-in-Some-clause-notes : goal.returns-in-Some-clause-notes
 returns-in-Some-clause-notes g c =
     took-moved _ _ _ _ _ _ _ _ _ (search rules) (search rules)
-    (asked-notes (texts c.args.words.now) (command_of c.in-Some.request) _ c.answer-status.new.self.machine.now _ _ _ _ _ c.in-Some.ensures.is
+    (asked-notes (texts c.args.words.now) (command_for c.in-Some.task) _ c.answer-status.new.self.machine.now _ _ _ _ _ c.in-Some.ensures.is
     c.reports.ensures c.answer-status.ensures.notes _ _
     (answer-may (answered g c refl refl) _ _ c.answer-status.ensures.source_fault c.answer-status.ensures.caused.input_fault)
     _ c.steps_of.ensures c.tell_behind-told.ensures.took)
@@ -71,7 +72,7 @@ pub returns-in-Some-clause-output_fault_told : goal.returns-in-Some-clause-outpu
 returns-in-Some-clause-output_fault_told g c = λ e n.
     let R : ℕ → Type 0 = λ q. ¬ Rose (g.R.Sink.faults c.args.notes.now) q in
     let never : ¬ Rose (g.R.Sink.faults c.args.notes.now) (g.R.Sink.faults c.tell_behind-told.new.setting.notes.now) = subst R (search rules) n in
-    let told = asked-fault (texts c.args.words.now) (command_of c.in-Some.request) _ c.answer-status.new.self.machine.now _ status.OutputFault _ _ _
+    let told = asked-fault (texts c.args.words.now) (command_for c.in-Some.task) _ c.answer-status.new.self.machine.now _ status.OutputFault _ _ _
     c.in-Some.ensures.is c.reports.ensures c.answer-status.ensures.notes
     (λ old h. c.tell_behind-told.ensures.output_fault_told old h e
     (λ r. never (Rose-since _ _ _ c.answer-status.ensures.caused.notes_never_fall r))) in
@@ -80,12 +81,12 @@ returns-in-Some-clause-output_fault_told g c = λ e n.
 pub returns-in-Some-clause-tuned : goal.returns-in-Some-clause-tuned
 returns-in-Some-clause-tuned g c =
     tuned-moved (texts c.args.words.now) c.answer-status.new.self.machine.now _ _ _ (search rules)
-    (answer-tuned (texts c.args.words.now) (command_of c.in-Some.request) _ _ _ c.in-Some.ensures.is c.answer-status.ensures.tuned)
+    (answer-tuned (texts c.args.words.now) (command_for c.in-Some.task) _ _ _ c.in-Some.ensures.is c.answer-status.ensures.tuned)
 
 pub returns-in-Some-clause-slides : goal.returns-in-Some-clause-slides
 returns-in-Some-clause-slides g c =
-    answer-chooses (texts c.args.words.now) (command_of c.in-Some.request) _ c.in-Some.ensures.is
-    (subst (λ (m : Kept). Chooses (command_of c.in-Some.request) m) (search rules) c.answer-status.ensures.slides)
+    answer-chooses (texts c.args.words.now) (command_for c.in-Some.task) _ c.in-Some.ensures.is
+    (subst (λ (m : Kept). Chooses (command_for c.in-Some.task) m) (search rules) c.answer-status.ensures.slides)
 
 pub returns-in-Some-clause-answered : goal.returns-in-Some-clause-answered
 returns-in-Some-clause-answered g c = answer-answered (answered g c (search rules) (search rules))
@@ -101,29 +102,29 @@ returns-in-Some-clause-untouched g c = answer-untouched (answered g c (search ru
 
 pub returns-in-Some-clause-reads_nothing : goal.returns-in-Some-clause-reads_nothing
 returns-in-Some-clause-reads_nothing g c =
-    answer-unread (texts c.args.words.now) (command_of c.in-Some.request) _ c.in-Some.ensures.is c.answer-status.ensures.reads_nothing
+    answer-unread (texts c.args.words.now) (command_for c.in-Some.task) _ c.in-Some.ensures.is c.answer-status.ensures.reads_nothing
 
 pub returns-in-Some-clause-files_unread : goal.returns-in-Some-clause-files_unread
 returns-in-Some-clause-files_unread g c =
-    answer-unopened (texts c.args.words.now) (command_of c.in-Some.request) _ c.in-Some.ensures.is c.answer-status.ensures.files_unread
+    answer-unopened (texts c.args.words.now) (command_for c.in-Some.task) _ c.in-Some.ensures.is c.answer-status.ensures.files_unread
 
 pub returns-in-Some-clause-usage : goal.returns-in-Some-clause-usage
 returns-in-Some-clause-usage g c = answer-usage (answered g c refl refl)
 
 pub returns-in-Some-clause-done : goal.returns-in-Some-clause-done
-returns-in-Some-clause-done g c = answer-exactly (answered g c refl refl) status.Done refl
+returns-in-Some-clause-done g c = answer-exactly (answered g c refl refl) c.answers_are_one.ensures status.Done refl
 
 pub returns-in-Some-clause-refused : goal.returns-in-Some-clause-refused
-returns-in-Some-clause-refused g c = λ f. answer-refused (answered g c refl refl) (status.Refused f) refl refl
+returns-in-Some-clause-refused g c = λ f. answer-refused (answered g c refl refl) c.answers_are_one.ensures (status.Refused f) refl refl
 
 pub returns-in-Some-clause-trap : goal.returns-in-Some-clause-trap
-returns-in-Some-clause-trap g c = λ kind line. answer-exactly (answered g c refl refl) (status.Trap kind line) refl
+returns-in-Some-clause-trap g c = λ kind line. answer-exactly (answered g c refl refl) c.answers_are_one.ensures (status.Trap kind line) refl
 
 pub returns-in-Some-clause-spent : goal.returns-in-Some-clause-spent
-returns-in-Some-clause-spent g c = answer-exactly (answered g c refl refl) status.Spent refl
+returns-in-Some-clause-spent g c = answer-exactly (answered g c refl refl) c.answers_are_one.ensures status.Spent refl
 
 pub returns-in-Some-clause-long : goal.returns-in-Some-clause-long
-returns-in-Some-clause-long g c = answer-refused (answered g c refl refl) status.Long refl refl
+returns-in-Some-clause-long g c = answer-refused (answered g c refl refl) c.answers_are_one.ensures status.Long refl refl
 
 pub returns-in-Some-clause-input_fault : goal.returns-in-Some-clause-input_fault
 returns-in-Some-clause-input_fault g c = λ i.
@@ -154,7 +155,7 @@ returns-in-None-clause-long g c = λ bytes. usage-exactly _ _ _ _ status.Long c.
 pub returns-in-Some-clause-asked : goal.returns-in-Some-clause-asked
 returns-in-Some-clause-asked g c =
     asked-moved _ (texts c.args.words.now) _ c.answer-status.new.self.machine.now _ _ _ _ _ (search rules)
-    (asked-words _ (texts c.args.words.now) (command_of c.in-Some.request) _ _ _ _ _ _ c.in-Some.ensures.is c.answer-status.ensures.asked)
+    (asked-words _ (texts c.args.words.now) (command_for c.in-Some.task) _ _ _ _ _ _ c.in-Some.ensures.is c.answer-status.ensures.asked)
 
 pub returns-in-Some-clause-yeses : goal.returns-in-Some-clause-yeses
 returns-in-Some-clause-yeses g c = let said = c.answer-status.ensures.yeses in search rules

@@ -1,0 +1,25 @@
+use Rattle.rg_commands.proofs.setting.Setting.answer.Goals as goal
+
+pub returns-in-OfProgram-clause-settles : goal.returns-in-OfProgram-clause-settles
+returns-in-OfProgram-clause-settles g c = rw c.in-OfProgram.is c.answer_request.ensures.settles
+
+pub returns-in-OfModule-clause-settles : goal.returns-in-OfModule-clause-settles
+returns-in-OfModule-clause-settles g c = rw c.in-OfModule.is c.answer_module.ensures.settles
+
+pub returns-in-OfProgram-clause-asked : goal.returns-in-OfProgram-clause-asked
+returns-in-OfProgram-clause-asked g c = rw c.in-OfProgram.is c.answer_request.ensures.asked
+
+pub returns-in-OfModule-clause-asked : goal.returns-in-OfModule-clause-asked
+returns-in-OfModule-clause-asked g c = rw c.in-OfModule.is c.answer_module.ensures.asked
+
+pub returns-in-OfProgram-clause-yeses : goal.returns-in-OfProgram-clause-yeses
+returns-in-OfProgram-clause-yeses g c = c.answer_request.ensures.yeses
+
+pub returns-in-OfModule-clause-yeses : goal.returns-in-OfModule-clause-yeses
+returns-in-OfModule-clause-yeses g c = c.answer_module.ensures.yeses
+
+pub returns-in-OfModule-clause-tuned : goal.returns-in-OfModule-clause-tuned
+returns-in-OfModule-clause-tuned g c = rw c.in-OfModule.is (λ on. c.answer_module.ensures.tuned)
+
+pub returns-in-OfModule-clause-slides : goal.returns-in-OfModule-clause-slides
+returns-in-OfModule-clause-slides g c = rw c.in-OfModule.is (λ begun. c.answer_module.ensures.kept.1)

@@ -1,0 +1,11 @@
+-- What an input without bytes tells (docs/architecture.md).
+use Rattle.std.specs.Prelude.{ℕ, List, [], Option, Some}
+use Rattle.rg_commands.specs.declared.setting.NoInput.{NoInput}
+
+-- it has nothing left
+abbrev pub nothing_left : NoInput → Option (List ℕ)
+nothing_left input = Some []
+
+-- it never fails
+abbrev pub no_faults : NoInput → ℕ
+no_faults input = 0

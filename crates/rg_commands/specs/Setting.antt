@@ -1,0 +1,64 @@
+-- What is said of what a command works with, before it and behind it (docs/architecture.md).
+use Rattle.std.specs.Prelude.{◌≡◌, ℕ, Bool, false, List, Option}
+use Rattle.rg_pace.specs.Asked.{Asked}
+use Rattle.rg_run.specs.Machine.{IsFresh}
+use Rattle.rg_commands.specs.declared.setting.Setting.{Setting}
+use Rattle.rg_words.specs.declared.status.Status.{Status}
+use Rattle.rg_words.specs.Commands.{Command, Origin, reports}
+use Rattle.rg_io.specs.Files.{Told}
+use Rattle.rg_commands.specs.Settled.{RanFrom, Settles, SettlesCommand, Reported, Caused}
+use Rattle.rg_commands.specs.Tallies.{TunedAsBefore, SayYesOf}
+
+-- no run has begun on its machine, and what is kept doesn't move there
+pub record IsUnused {O R : Type 0} (s : Setting O R) : Type 0 where
+  pub fresh : IsFresh s.machine.now
+  pub stays : s.machine.now.stepper.slides ≡ false
+
+-- it still has the output, the notes and the machine that it was made with
+abbrev pub IsLent : {O R : Type 0} → Setting O R → Setting O R → Type 0
+IsLent old new =
+    (new.out.ghost_name ≡ old.out.ghost_name) × (new.notes.ghost_name ≡ old.notes.ghost_name)
+    × (new.machine.ghost_name ≡ old.machine.ghost_name)
+
+-- whether what is kept moves was left as it was
+abbrev pub SlidesOn : {O R : Type 0} → Setting O R → Setting O R → Type 0
+SlidesOn old new = new.machine.now.stepper.slides ≡ old.machine.now.stepper.slides
+
+-- whether what is kept moves was chosen so
+abbrev pub SlidesTo : {O R : Type 0} → Bool → Setting O R → Type 0
+SlidesTo slides s = s.machine.now.stepper.slides ≡ slides
+
+-- a run on its machine tuned no pacer, and each yes was a collection
+abbrev pub PacedIn : {O R : Type 0} → Setting O R → (count_old count_new trace_old trace_new : Asked) → Type 0
+PacedIn s count_old count_new trace_old trace_new =
+    TunedAsBefore count_old count_new trace_old trace_new × SayYesOf s.machine.now count_old count_new trace_old trace_new
+
+-- what a run on its machine has answered, and given to its output
+abbrev pub RanIn : {O R : Type 0} → (O → Option (List ℕ)) → Origin → (n : ℕ) → (source : List ℕ) → (left : Option (List ℕ)) → Status
+    → (old new : Setting O R) → (still : Type 0) → Type 0
+RanIn taken origin n source left s old new still =
+    RanFrom origin n source left s (taken old.out.now) (taken new.out.now) new.machine.now still
+
+-- what was answered to a source, and given to its output
+abbrev pub SettlesIn : {O R : Type 0} → (O → Option (List ℕ)) → Command → (source : List ℕ) → (left : Option (List ℕ)) → Status
+    → (old new : Setting O R) → (still : Type 0) → Type 0
+SettlesIn taken c source left s old new still = Settles c source left s (taken old.out.now) (taken new.out.now) new.machine.now still
+
+-- what was answered to a command, and given to its output
+abbrev pub SettlesCommandIn : {O R : Type 0} → (O → Option (List ℕ)) → Option Told → Command → (left : Option (List ℕ)) → Status
+    → (old new : Setting O R) → (still : Type 0) → Type 0
+SettlesCommandIn taken told c left s old new still =
+    SettlesCommand told c left s (taken old.out.now) (taken new.out.now) new.machine.now still
+
+-- what its notes have taken of its machine's collections
+abbrev pub ReportedIn : {O R : Type 0} → (R → Option (List ℕ)) → (report : Bool) → Status → (old new : Setting O R) → Type 0
+ReportedIn taken report s old new = Reported report s new.machine.now.stepper.events (taken old.notes.now) (taken new.notes.now)
+
+-- the same of a command
+abbrev pub ReportedOf : {O R : Type 0} → (R → Option (List ℕ)) → Command → Status → (old new : Setting O R) → Type 0
+ReportedOf taken c s old new = ReportedIn taken (reports c) s old new
+
+-- from which count a fault comes: that of an input, or of its output or notes
+abbrev pub CausedIn : {O R : Type 0} → (O → ℕ) → (R → ℕ) → Status → (input_old input_new : ℕ) → (old new : Setting O R) → Type 0
+CausedIn out notes s input_old input_new old new =
+    Caused s input_old input_new (out old.out.now) (out new.out.now) (notes old.notes.now) (notes new.notes.now)

@@ -1,0 +1,55 @@
+//! `code FILE`: lists the instructions of a program.
+
+ghost use Rattle.std.specs.Prelude.{ℕ, List, Option};
+ghost use Rattle.rg_tree.specs.Rows.RowTrees.{program_of};
+ghost use Rattle.rg_run.specs.Machine.{IsFresh, Kept};
+ghost use Rattle.rg_rules.specs.Names.{FewNames};
+ghost use Rattle.rg_words.specs.Commands.{code, in_file};
+ghost use Rattle.rg_commands.specs.Expected.{spelt, Means};
+ghost use Rattle.rg_commands.specs.CutOff.{Runs};
+ghost use Rattle.rg_commands.specs.Settled.{Settles, CausedByOutput};
+
+use rg_base::Stop;
+use rg_check::{Accepted, check};
+use rg_code::listing;
+use rg_io::{Sink, put_all};
+use rg_lower::lower;
+use rg_tree::Program;
+use rg_words::Status;
+use std::alloc::Global;
+
+/// Gives the listing of an accepted program's code to the output.
+fn list_accepted<O: Sink>(alloc: Global, accepted: &Accepted, out: &mut O) -> Status
+    ensures settles { (file source : List ℕ) (left : Option (List ℕ)) (m : Kept) →
+        Runs (in_file file) source (program_of accepted.now.program) → IsFresh m →
+        Settles (code file) source left result
+        (O.taken out.old) (O.taken out.new) m (Unit {0}) }
+    ensures caused { CausedByOutput result (O.faults out.old) (O.faults out.new) }
+{
+    let Ok(code) = lower(alloc, accepted) else {
+        return Status::Memory;
+    };
+    match listing(alloc, accepted.program(), &code) {
+        Err(_) => Status::Memory,
+        Ok(text) => match put_all(out, text.bytes()) {
+            Ok(()) => Status::Done,
+            Err(_) => Status::OutputFault,
+        },
+    }
+}
+
+/// Gives the listing of a program's code to the output, if it is accepted.
+pub(crate) fn list_program<O: Sink>(alloc: Global, program: Program, out: &mut O) -> Status
+    requires { FewNames (program_of program) }
+    ensures settles { (file source : List ℕ) (left : Option (List ℕ)) (m : Kept) →
+        Means source (spelt (program_of program)) → IsFresh m →
+        Settles (code file) source left result
+        (O.taken out.old) (O.taken out.new) m (Unit {0}) }
+    ensures caused { CausedByOutput result (O.faults out.old) (O.faults out.new) }
+{
+    match check(alloc, program) {
+        Err(Stop::Fault(fault)) => Status::Refused(fault),
+        Err(Stop::Memory) => Status::Memory,
+        Ok(accepted) => list_accepted(alloc, &accepted, out),
+    }
+}
