@@ -64,10 +64,10 @@ pub record MemberFine (cs : List Class) (d : Class) (c : ℕ) (m : Method) : Typ
 few-names : (n : ℕ) → n ≤ BODY_NAMES → n < 2 ^ 64
 few-names n h = omega (arith, h)
 
-abbrev FieldsFine : List Class → Class → List Member → Type 0
+abbrev pub FieldsFine : List Class → Class → List Member → Type 0
 FieldsFine cs d ms = AllByRecursion (λ (f : Field). field_header cs d f ≡ Ok tt) (filter_map field_member ms)
 
-abbrev MethodsFine : List Class → Class → ℕ → List Member → Type 0
+abbrev pub MethodsFine : List Class → Class → ℕ → List Member → Type 0
 MethodsFine cs d c ms = AllByRecursion (MemberFine cs d c) (filter_map method_member ms)
 
 pub members-fine : (cs : List Class) (d : Class) (c : ℕ) (earlier : List Name) (ms : List Member) → member_headers cs d earlier ms ≡ Ok tt →

@@ -8,6 +8,7 @@ mod Examples
 mod Expressions
 mod Follows
 mod Headers
+mod Limits
 mod Methods
 mod Names
 mod Numbered
