@@ -2,6 +2,7 @@
 mod Behind
 mod Blocks
 mod BlocksFound
+mod Brackets
 mod Classes
 mod Environments
 mod Examples

@@ -1,8 +1,10 @@
 //! The program that an accepted program is with numbers for names (docs/architecture.md,
-//! "Modules"), as a definition: `renamed` of `specs/Renamed`. The laws: it has numbers for names
-//! (`renamed_is_numbered`). No call renames a program.
+//! "Modules"), as a definition: `renamed` of `specs/Renamed`. The laws: it has numbers for names,
+//! it is accepted, and its module is the same, so it raises the module, within the limits. No call
+//! renames a program.
 #![tactic(auto)]
 
 mod laws;
 
-pub use laws::renamed_is_numbered;
+pub use laws::{modules_are_raised, renamed_is_accepted, renamed_is_numbered};
+pub use laws::{renamed_is_within_limits, same_module};
