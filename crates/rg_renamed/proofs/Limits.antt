@@ -15,9 +15,6 @@ use Rattle.rg_limits.specs.Depth.{kind_levels, else_levels, block_levels, AreMem
 use Rattle.rg_limits.specs.Each.{right_exprs, own_exprs, HoldsWithin, HoldsBehind, HoldsInBlock, HoldsInMember, HoldsOfEach}
 use Rattle.rg_limits.specs.Signs.{expr_signs, exprs_signs, HasFewOwnSigns, HasFewSigns}
 use Rattle.rg_limits.specs.Numbers.{HasSmall, HasOwnSmall, HasSmallNumbers}
-use Rattle.rg_limits.specs.Brackets.{most_open}
-use Rattle.rg_limits.specs.Limits.{IsWithinLimits}
-use Rattle.rg_tree.specs.Canonical.{canon}
 use Rattle.rg_code.specs.Lowering.{Scope, slot_of, method_scope, scope_behind, scope_inside, scope_at_end}
 use Rattle.rg_verify.specs.Raised.{named}
 use Rattle.rg_verify.specs.Statements as numbers
@@ -380,13 +377,3 @@ signs-again t h = each-again HasFewOwnSigns t (λ m ss n k q. own-signs t.classe
 
 pub small-again : (t : Tree) → HasSmallNumbers t → HasSmallNumbers (renamed t)
 small-again t h = each-again HasOwnSmall t (λ m ss n k q. own-small t.classes m ss n k q) h
-
-pub within-again : (t : Tree) → IsWithinLimits t → most_open (canon (renamed t)) ≤ BRACKETS → IsWithinLimits (renamed t)
-within-again t h b = record {
-  parts = parts-again t h.parts;
-  names = names-again t h.names;
-  signs = signs-again t h.signs;
-  numbers = small-again t h.numbers;
-  depth = levels-again t h.depth;
-  brackets = b;
-}

@@ -21,7 +21,7 @@ pub fn renamed_is_accepted()
     ensures { RenamedAreAccepted }
 {}
 
-/// It passes no limit, if the program passed none and its text opens no more brackets than it may.
+/// It passes no limit where the program passes none, and no name there has a bracket in it.
 pub fn renamed_is_within_limits()
     ensures { RenamedAreWithinLimits }
 {}

@@ -17,6 +17,7 @@ use Rattle.rg_tree.specs.Canonical.{param_texts, result_text, head_text, member_
 use Rattle.rg_rules.specs.Types.{field_member, method_member}
 use Rattle.rg_limits.specs.Brackets.{opens, closes, open_behind, most_open_from, most_open}
 use Rattle.rg_limits.specs.Plain.{IsPlainName, IsPlainPath, IsPlainType, IsPlainExpr, IsPlainCall, IsPlainRight, IsPlainKind, IsPlainElse, IsPlainBlock}
+use Rattle.rg_limits.specs.Limits.{IsWithinLimits}
 use Rattle.rg_limits.specs.Plain.{IsPlainParam, IsPlainMember, HasPlainMembers, IsPlainClass, IsPlain}
 use Rattle.rg_code.specs.Lowering.{Scope, slot_of, method_scope, scope_behind, scope_inside, scope_at_end}
 use Rattle.rg_verify.specs.Naming.{variable_name, field_name, class_name, method_name, variable_in}
@@ -28,6 +29,7 @@ use Rattle.rg_numbered.specs.Numbered.{path_numbers, numbered, numbered_call, nu
 use Rattle.rg_numbered.specs.Numbered.{giving_slot, numbered_kind, numbered_else, numbered_block}
 use Rattle.rg_renamed.specs.Renamed.{renamed_classes, renamed_type, renamed_params, renamed_method, renamed_field, renamed_from, renamed_members, renamed_class}
 use Rattle.rg_renamed.specs.Renamed.{renamed}
+use Rattle.rg_renamed.proofs.Limits.{parts-again, names-again, levels-again, signs-again, small-again}
 
 -- The more are open, the more are open at most
 
@@ -360,7 +362,7 @@ module _ (cs : List Class) (m : Truth) where
       Less (kind_text d (kind_named m n (numbered_swap cs ss (slot_of ss (Some y)) x fs))) (kind_text d (swap y (record { base = x; fields = fs })))
   swap-less ss n d y x [] h g =
       line-less d _ _ (word (codes "swap ") & of _ _ (variable-less _ y h) & word (codes ", ")
-      & of _ _ (path-less m (slot_of ss x) _ (record { base = x; fields = [] }) g) & word (codes ";")).fewer
+      & of _ _ (path-less m (slot_of ss x) (0 ∷ []) (record { base = x; fields = [] }) g) & word (codes ";")).fewer
   swap-less ss n d y x (f ∷ fs) h g =
       line-less d _ _ (word (codes "swap ") & of _ _ (variable-less _ y h) & word (codes ", ")
       & of _ _ (path-less m (slot_of ss x) _ (record { base = x; fields = f ∷ fs }) g) & word (codes ";")).fewer
@@ -516,3 +518,16 @@ brackets-again t h =
     let l = text.fewer.less [] [] (λ k. omega arith) 0 in
     subst (λ (s : List ℕ). most_open_from 0 s ≤ most_open (canon t)) (append-nil (canon (renamed t)))
     (subst (λ (s : List ℕ). most_open_from 0 (canon (renamed t) ++ []) ≤ most_open_from 0 s) (append-nil (canon t)) l)
+
+pub within-again : (t : Tree) → IsWithinLimits t → IsPlain t → IsWithinLimits (renamed t)
+within-again t h p =
+    let b = h.brackets in
+    let l = brackets-again t p in
+    record {
+      parts = parts-again t h.parts;
+      names = names-again t h.names;
+      signs = signs-again t h.signs;
+      numbers = small-again t h.numbers;
+      depth = levels-again t h.depth;
+      brackets = omega (arith, l, b);
+    }
