@@ -6,5 +6,7 @@
 
 mod laws;
 
-pub use laws::{modules_are_raised, renamed_is_accepted, renamed_is_numbered};
-pub use laws::{renamed_is_within_limits, same_module};
+pub use laws::{
+    modules_are_raised, renamed_is_accepted, renamed_is_numbered, renamed_is_within_limits,
+    same_module,
+};
