@@ -1,0 +1,22 @@
+-- Lemmas on programs with numbers for names.
+mod Behind
+mod Blocks
+mod BlocksFound
+mod Classes
+mod Environments
+mod Examples
+mod Expressions
+mod FewerBrackets
+mod Follows
+mod Headers
+mod Limits
+mod Methods
+mod Names
+mod Numbered
+mod NumberedCode
+mod NumberedMaps
+mod Parameters
+mod Paths
+mod Scopes
+mod Statements
+mod Whole

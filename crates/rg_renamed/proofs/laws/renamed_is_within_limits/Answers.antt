@@ -1,0 +1,5 @@
+use Rattle.rg_renamed.proofs.FewerBrackets.{within-again}
+use Rattle.rg_renamed.proofs.laws.renamed_is_within_limits.Goals as goal
+
+pub returns : goal.returns
+returns c = within-again
