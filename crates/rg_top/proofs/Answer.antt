@@ -9,10 +9,11 @@ use Rattle.rg_io.proofs.Content.{Rose-since}
 use Rattle.rg_run.specs.Machine.{Kept, numbers_of}
 use Rattle.rg_words.specs.declared.status.Status.{Status}
 use Rattle.rg_words.specs.declared.status.Status.TheVariants as status
-use Rattle.rg_words.specs.Commands.{Command, command, origin_of, reads_input, may_read, opens_file, may_open}
+use Rattle.rg_words.specs.Commands.{Command, command, origin_of, reads_input, may_read, opens_file, may_open, steps_of}
 use Rattle.rg_words.specs.Statuses.{is_answer, is_refusal, is_cut_off, is_from_outside}
 use Rattle.rg_commands.specs.Expected.{HasSource, ExpectsStatus}
 use Rattle.rg_commands.specs.CutOff.{ForInput, Untouched, CutOffAt, CutAtInput}
+use Rattle.rg_top.specs.Each.{StandsForEach}
 use Rattle.rg_top.specs.Headline.{ForSource, Exactly, ExactlyWhere, Answers, IsExpected, MayTell}
 use Rattle.rg_commands.specs.Laws.{OneAnswer}
 use Rattle.rg_commands.specs.Settled.{Settles, Unread, source_fault, memory, SettlesCommand, Tunes, Chooses}
@@ -343,12 +344,14 @@ answer-unopened words c P e h = rw e (on-false (opens_file c) h)
 
 -- what was answered to a source was expected of it
 expects-of : (told : Option Told) (left : Option (List ℕ)) (words : List (List ℕ)) (s : Status) (old new : Option (List ℕ)) (m : Kept) (still : Type 0) →
-    ForSource told left words (λ c source input. Answers c source input s old new m still) → IsExpected told left words s
-expects-of told left words s old new m still (c, source, asked, has, (input, is, a)) =
+    ForSource told left words (λ c source input.
+    Answers c source input s old new m still × StandsForEach c source input (steps_of c) m) → IsExpected told left words s
+expects-of told left words s old new m still (c, source, asked, has, (input, is, (a, each))) =
     (c, source, asked, has, (input, is, (numbers_of m, a.text, (a.meaning, a.means, a.expects))))
 
 pub answers-expected : (told : Option Told) (left : Option (List ℕ)) (words : List (List ℕ)) (s : Status) (old new : Option (List ℕ)) (m : Kept)
-    (still : Type 0) → OnTrue (is_answer s) (ForSource told left words (λ c source input. Answers c source input s old new m still)) →
+    (still : Type 0) → OnTrue (is_answer s) (ForSource told left words (λ c source input.
+    Answers c source input s old new m still × StandsForEach c source input (steps_of c) m)) →
     OnTrue (is_answer s) (IsExpected told left words s)
 answers-expected told left words s old new m still h = on-true _ _ (is_answer s) h (expects-of told left words s old new m still)
 

@@ -3,3 +3,4 @@ mod Settled
 mod NoteLines
 mod Asked
 mod Answer
+mod Each

@@ -19,9 +19,11 @@ ghost use Rattle.rg_words.specs.Statuses.{is_answer, is_refusal, is_cut_off};
 ghost use Rattle.rg_commands.specs.Expected.{ExpectsStatus};
 ghost use Rattle.rg_top.specs.Headline.{ForSource, Exactly, ExactlyWhere, Answers, TookNotes};
 ghost use Rattle.rg_top.specs.Headline.{ToldFault, MayTell, steps_asked};
+ghost use Rattle.rg_top.specs.Each.{StandsForEach, AsksForEach};
 ghost use Rattle.rg_commands.specs.CutOff.{Untouched, CutOffAt, CutAtInput};
 ghost use Rattle.rg_commands.specs.Asked.{Unasked, RunAsks, SayYes, input_for};
 
+use crate::laws::each_runs;
 use crate::notes::{tell, tell_behind};
 use rg_base::MOST_STEPS;
 use rg_commands::{Setting, answers_are_one};
@@ -83,7 +85,7 @@ pub fn reggio<F: Files, I: Source, O: Sink, R: Sink>(
         (ForSource (F.told files.old) (I.left input.old) (texts words.now)
         (λ c source bytes.
         Answers c source bytes result (O.taken out.old) (O.taken out.new) machine.new
-        (input.new ≡ input.old))) }
+        (input.new ≡ input.old) × StandsForEach c source bytes (steps_of c) machine.new)) }
     ensures untouched { OnTrue (is_refusal result)
         (Untouched machine.new (O.taken out.old) (O.taken out.new) (input.new ≡ input.old)) }
     ensures cut_off { OnTrue (is_cut_off result)
@@ -91,10 +93,11 @@ pub fn reggio<F: Files, I: Source, O: Sink, R: Sink>(
         ⊎ ForSource (F.told files.old) (I.left input.old) (texts words.now)
         (λ c source bytes.
         CutOffAt c source bytes machine.new (O.taken out.old) (O.taken out.new)
-        (input.new ≡ input.old))) }
+        (input.new ≡ input.old) × StandsForEach c source bytes machine.new.steps machine.new)) }
     ensures cut_at_input { result ≡ Status.InputFault →
         ForSource (F.told files.old) (I.left input.old) (texts words.now) (λ c source bytes.
-        CutAtInput c source bytes machine.new (O.taken out.old) (O.taken out.new)) }
+        CutAtInput c source bytes machine.new (O.taken out.old) (O.taken out.new)
+        × StandsForEach c source bytes machine.new.steps machine.new) }
     ensures notes { TookNotes (MayTell (F.told files.old) (I.left input.old) (texts words.now)
         (Rose (F.faults files.old) (F.faults files.new))
         (Rose (I.faults input.old) (I.faults input.new)))
@@ -109,6 +112,9 @@ pub fn reggio<F: Files, I: Source, O: Sink, R: Sink>(
         (tally count.old).asks (tally count.new).asks (tally trace.old).asks (tally trace.new).asks
         ⊎ ForSource (F.told files.old) (I.left input.old) (texts words.now)
         (λ c source bytes. RunAsks (origin_of c) source (input_for (origin_of c) bytes) machine.new
+        (tally count.old).asks (tally count.new).asks
+        (tally trace.old).asks (tally trace.new).asks
+        × AsksForEach c source bytes machine.new
         (tally count.old).asks (tally count.new).asks
         (tally trace.old).asks (tally trace.new).asks) }
     ensures yeses { SayYes machine.new
@@ -160,6 +166,7 @@ pub fn reggio<F: Files, I: Source, O: Sink, R: Sink>(
     ensures notes_never_fall { R.faults notes.old ≤ R.faults notes.new }
 {
     answers_are_one();
+    each_runs();
     match command(words) {
         None => {
             machine.is_owned();

@@ -7,12 +7,13 @@ use Rattle.rg_words.specs.declared.status.Status.TheVariants as status
 use Rattle.rg_words.specs.Commands.{texts}
 use Rattle.rg_words.specs.Requests.{command_for}
 use Rattle.rg_commands.specs.Settled.{Chooses}
-use Rattle.rg_top.proofs.Answer.{Answered, answer-answered, answer-cut, answer-input, answer-exactly, answer-refused, answer-complete, answer-unread}
+use Rattle.rg_top.proofs.Answer.{Answered, answer-exactly, answer-refused, answer-complete, answer-unread}
 use Rattle.rg_top.proofs.Answer.{answer-unopened, answer-untouched, answer-output, answer-tuned, answer-usage, given-is, answer-chooses, tuned-moved}
 use Rattle.rg_top.proofs.Answer.{answer-may, settles-moved, usage-exactly}
 use Rattle.rg_top.proofs.NoteLines.{asked-notes, asked-fault, unasked-notes, took-moved}
 use Rattle.rg_top.proofs.Asked.{asked-words, asked-moved}
 use Rattle.rg_commands.proofs.Asked.{yeses-fresh}
+use Rattle.rg_top.proofs.Each.{each-answered, each-cut_off, each-cut_at_input, asked-each}
 use Rattle.rg_top.proofs.top.reggio.Given.{Over}
 use Rattle.rg_top.proofs.top.reggio.Goals as goal
 
@@ -89,13 +90,15 @@ returns-in-Some-clause-slides g c =
     (subst (λ (m : Kept). Chooses (command_for c.in-Some.task) m) (search rules) c.answer-status.ensures.slides)
 
 pub returns-in-Some-clause-answered : goal.returns-in-Some-clause-answered
-returns-in-Some-clause-answered g c = answer-answered (answered g c (search rules) (search rules))
+returns-in-Some-clause-answered g c =
+    each-answered c.each_runs.ensures (answered g c (search rules) (search rules))
 
 pub returns-in-Some-clause-cut_off : goal.returns-in-Some-clause-cut_off
-returns-in-Some-clause-cut_off g c = answer-cut (answered g c (search rules) (search rules))
+returns-in-Some-clause-cut_off g c =
+    each-cut_off c.each_runs.ensures (answered g c (search rules) (search rules))
 
 pub returns-in-Some-clause-cut_at_input : goal.returns-in-Some-clause-cut_at_input
-returns-in-Some-clause-cut_at_input g c = answer-input (answered g c (search rules) (search rules))
+returns-in-Some-clause-cut_at_input g c = each-cut_at_input c.each_runs.ensures (answered g c (search rules) (search rules))
 
 pub returns-in-Some-clause-untouched : goal.returns-in-Some-clause-untouched
 returns-in-Some-clause-untouched g c = answer-untouched (answered g c (search rules) (search rules))
@@ -154,8 +157,9 @@ returns-in-None-clause-long g c = λ bytes. usage-exactly _ _ _ _ status.Long c.
 
 pub returns-in-Some-clause-asked : goal.returns-in-Some-clause-asked
 returns-in-Some-clause-asked g c =
-    asked-moved _ (texts c.args.words.now) _ c.answer-status.new.self.machine.now _ _ _ _ _ (search rules)
-    (asked-words _ (texts c.args.words.now) (command_for c.in-Some.task) _ _ _ _ _ _ c.in-Some.ensures.is c.answer-status.ensures.asked)
+    asked-each c.each_runs.ensures _ _ (texts c.args.words.now) _ _ _ _ _
+    (asked-moved _ (texts c.args.words.now) _ c.answer-status.new.self.machine.now _ _ _ _ _ (search rules)
+    (asked-words _ (texts c.args.words.now) (command_for c.in-Some.task) _ _ _ _ _ _ c.in-Some.ensures.is c.answer-status.ensures.asked))
 
 pub returns-in-Some-clause-yeses : goal.returns-in-Some-clause-yeses
 returns-in-Some-clause-yeses g c = let said = c.answer-status.ensures.yeses in search rules
