@@ -1,6 +1,5 @@
 -- Worked examples: the brackets that parts need are those that are open in the text.
 use Rattle.std.proofs.Common.{◌≡◌, refl, pos, arith, [], ◌∷◌, codes, Some, None, false}
-use Rattle.std.specs.Fmt.{digits}
 use Rattle.rg_base.specs.declared.words.Cap.TheVariants.{Mut}
 use Rattle.rg_base.specs.declared.words.Manager.TheVariants.{Arena}
 use Rattle.rg_tree.specs.declared.rows.BinOp.TheVariants.{Add, Mul}
@@ -54,10 +53,6 @@ deep = with_body (next (stmt 5 (while (boolean false) (next (stmt 6 (print (elem
 
 deep_main : tree_opens deep ≡ 4
 deep_main = refl
-
-deep_text : most_open (canon deep) ≡ 4
-unfolding digits
-deep_text = refl
 
 -- its names have no brackets
 deep_bare : IsBareTree deep
