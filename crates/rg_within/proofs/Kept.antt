@@ -1,4 +1,4 @@
--- What is read of statements and expressions keeps the counts of classes, fields, methods and brackets.
+-- What is read of statements and expressions keeps the counts of classes, fields and methods.
 use Rattle.std.proofs.Common.{◌≡◌, refl, sym, ap, ◌∙◌, subst, ℕ, ◌+◌, ◌<◌, Bool as Truth, true, false, nat_lt, List, Ok, arith}
 use Rattle.std.proofs.lemmas.Bool.{false≢true}
 use Rattle.std.proofs.lemmas.Bool.Decides.{nat_tests}
@@ -7,6 +7,7 @@ use Rattle.rg_base.specs.declared.fault.Code.TheVariants as code
 use Rattle.rg_base.specs.declared.token.Token.{Token}
 use Rattle.rg_base.specs.declared.limits.TheConstants.{BRACKETS, CLASSES, CLASS_FIELDS, CLASS_METHODS, PARAMETERS, BODY_NAMES, STATEMENT_SIGNS}
 use Rattle.rg_tree.specs.declared.counts.Counts.{Counts}
+use Rattle.rg_tree.proofs.Callers.{within-ok}
 use Rattle.rg_tree.specs.Counts.{within, opened, closed, one_class, one_field, one_method, one_param, one_local, one_sign, no_signs}
 use Rattle.rg_tree.specs.Forms as form
 use Rattle.rg_tree.specs.Forms.{Form, Given}
@@ -20,33 +21,26 @@ use Rattle.rg_tree.specs.Grammar.{next_arg, no_more_args, expr_row, or_row, no_o
 use Rattle.rg_tree.specs.Grammar.{not_compared, sum_row, sum_further, no_sum, mul_row, mul_further, no_mul, minus, no_minus, literal, parens}
 use Rattle.rg_tree.specs.Grammar.{size_row, path_value, is_row, element_of, no_is}
 
--- the same counts of what a program and a class have, and of open brackets
+-- the same counts of what a program and a class have
 pub record Keeps (c d : Counts) : Type 0 where
   pub classes : d.classes ≡ c.classes
   pub fields : d.fields ≡ c.fields
   pub methods : d.methods ≡ c.methods
-  pub brackets : d.brackets ≡ c.brackets
 
 pub keeps-still : {c : Counts} → Keeps c c
-keeps-still = record { classes = refl; fields = refl; methods = refl; brackets = refl }
+keeps-still = record { classes = refl; fields = refl; methods = refl }
 
 pub keeps-unsigned : {c : Counts} → Keeps c (no_signs c)
-keeps-unsigned = record { classes = refl; fields = refl; methods = refl; brackets = refl }
+keeps-unsigned = record { classes = refl; fields = refl; methods = refl }
 
 pub keeps-then : {c d e : Counts} → Keeps c d → Keeps d e → Keeps c e
 keeps-then r s = record {
   classes = s.classes ∙ r.classes;
   fields = s.fields ∙ r.fields;
   methods = s.methods ∙ r.methods;
-  brackets = s.brackets ∙ r.brackets;
 }
 
--- within a limit
-pub within-ok : (b : Truth) (f : Code) (c d : Counts) → within b f c ≡ Ok d → (b ≡ true) × (c ≡ d)
-within-ok true f c d h = (refl, grind arith)
-within-ok false f c d h = grind arith
-
-pub less-than : (n most : ℕ) → nat_lt n most ≡ true → n < most
+less-than : (n most : ℕ) → nat_lt n most ≡ true → n < most
 less-than n most h = grind (arith, nat_tests)
 
 -- one more
@@ -74,28 +68,26 @@ pub param-more : (c d : Counts) → one_param c ≡ Ok d → OneMore c.params PA
 param-more c d h = one-more c.params PARAMETERS code.Limit (record c { params = c.params + 1; names = c.names + 1 }) d h
 
 keeps-param : {c d : Counts} → one_param c ≡ Ok d → Keeps c d
-keeps-param {c} {d} h = subst (Keeps c) (sym (param-more c d h).is) (record { classes = refl; fields = refl; methods = refl; brackets = refl })
+keeps-param {c} {d} h = subst (Keeps c) (sym (param-more c d h).is) (record { classes = refl; fields = refl; methods = refl })
 
-pub keeps-local : {c d : Counts} → one_local c ≡ Ok d → Keeps c d
+keeps-local : {c d : Counts} → one_local c ≡ Ok d → Keeps c d
 keeps-local {c} {d} h =
     let m = one-more c.names BODY_NAMES code.Limit (record c { names = c.names + 1 }) d h in
-    subst (Keeps c) (sym m.is) (record { classes = refl; fields = refl; methods = refl; brackets = refl })
+    subst (Keeps c) (sym m.is) (record { classes = refl; fields = refl; methods = refl })
 
 keeps-sign : {c d : Counts} → one_sign c ≡ Ok d → Keeps c d
 keeps-sign {c} {d} h =
     let m = one-more c.signs STATEMENT_SIGNS code.Limit (record c { signs = c.signs + 1 }) d h in
-    subst (Keeps c) (sym m.is) (record { classes = refl; fields = refl; methods = refl; brackets = refl })
+    subst (Keeps c) (sym m.is) (record { classes = refl; fields = refl; methods = refl })
 
 -- between brackets
 pub keeps-shut : {c d e : Counts} → opened c ≡ Ok d → Keeps d e → Keeps c (closed e)
 keeps-shut {c} {d} {e} h r =
     let one = (opened-more h).is in
-    let open-brackets : e.brackets ≡ c.brackets + 1 = r.brackets ∙ ap (λ (x : Counts). x.brackets) one in
     record {
       classes = r.classes ∙ ap (λ (x : Counts). x.classes) one;
       fields = r.fields ∙ ap (λ (x : Counts). x.fields) one;
       methods = r.methods ∙ ap (λ (x : Counts). x.methods) one;
-      brackets = omega (arith, open-brackets);
     }
 
 -- a form within a class's members

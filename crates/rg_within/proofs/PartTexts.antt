@@ -13,23 +13,8 @@ use Rattle.rg_tree.specs.declared.rows.BinOp.TheVariants.{Or, And, Eq, Ne, Lt, L
 use Rattle.rg_tree.specs.Tree.{Name, Variable, Path, Ty, int, bool, ref, Expr, Right, Param, Method}
 use Rattle.rg_tree.specs.Canonical.{op_text, cap_text, manager_text, base_text, path_text, expr_text, ty_text, joined, size_text, right_text}
 use Rattle.rg_tree.specs.Canonical.{giving_text, param_texts, result_text, head_text, class_word}
-use Rattle.rg_within.proofs.Texts.{Stays, both, nothing, is_bracket, bare, around}
-use Rattle.rg_within.proofs.Tokens.{IsBare}
-
--- Names
-
-pub record IsBarePath (q : Path) : Type 0 where
-  pub base : IfSome q.base IsBare
-  pub fields : AllByRecursion IsBare q.fields
-
-abbrev pub IsBareType : Ty → Type 0
-IsBareType int = Unit {0}
-IsBareType bool = Unit {0}
-IsBareType (ref c n) = IsBare n
-
-pub record IsBareParam (p : Param) : Type 0 where
-  pub name : IsBare p.name
-  pub ty : IsBareType p.ty
+use Rattle.rg_within.specs.Bare.{is_bracket, IsBare, IsBarePath, IsBareType, IsBareParam}
+use Rattle.rg_within.proofs.Texts.{Stays, both, nothing, bare, around}
 
 -- Words
 

@@ -1,7 +1,6 @@
--- What is read fits: signs are counted, numbers are small, and no more brackets are open in its text than were in the source.
-use Rattle.std.proofs.Common.{◌≡◌, refl, ℕ, ◌+◌, ◌≤◌, true, false, List, IfSome, arith}
+-- What is read fits: signs are counted, numbers are small, names have no brackets, and the text needs no more of these than the source had.
+use Rattle.std.proofs.Common.{◌≡◌, refl, ℕ, true, false, List, IfSome, arith}
 use Rattle.std.specs.List.{AllByRecursion}
-use Rattle.rg_base.specs.declared.limits.TheConstants.{BRACKETS}
 use Rattle.rg_base.specs.declared.token.Token.{Token}
 use Rattle.rg_tree.specs.declared.counts.Counts.{Counts}
 use Rattle.rg_tree.specs.Forms.{Form, Given}
@@ -15,13 +14,12 @@ use Rattle.rg_tree.specs.Grammar.{input_row, result_row, value_row, new_plain, n
 use Rattle.rg_tree.specs.Grammar.{call_args, no_args, first_arg, next_arg, no_more_args, expr_row, or_row, no_or, and_row, and_further, no_and}
 use Rattle.rg_tree.specs.Grammar.{not_row, no_not, cmp_row, compared, not_compared, sum_row, sum_further, no_sum, mul_row, mul_further, no_mul, minus}
 use Rattle.rg_tree.specs.Grammar.{no_minus, literal, parens, path_value, is_row, no_is}
-use Rattle.rg_within.proofs.Texts.{nothing, last-line}
-use Rattle.rg_within.proofs.Tokens.{IsBare, AreFine}
-use Rattle.rg_within.proofs.PartTexts.{IsBarePath, IsBareType, IsBareParam, freeze-stays, merge-stays, new-stays, new_tmp-stays, new_iso-stays}
-use Rattle.rg_within.proofs.Spent.{Spent, still, behind, before, local-spent, param-spent, field-spent, Fits, looser, or-levels, and-levels}
+use Rattle.rg_within.specs.Bare.{IsBare, IsBarePath, IsBareType, IsBareParam}
+use Rattle.rg_within.proofs.Tokens.{AreFine}
+use Rattle.rg_within.proofs.Spent.{Spent, still, behind, before, local-spent, param-spent, field-spent, no-room, Fits, looser, or-levels, and-levels}
 use Rattle.rg_within.proofs.Spent.{comparison-levels, sum-levels, product-levels, operator-fits, not-fits, neg-fits, parens-fits, path-fits, is_nil-fits}
 use Rattle.rg_within.proofs.Spent.{size-fits, element-fits, literal-fits}
-use Rattle.rg_within.proofs.Pieces.{name-of, base-bare, plain_type-bare, longer-bare, ArgsFit, MoreArgsFit, args-fit, more-args-fit, IndexFits, at-fits}
+use Rattle.rg_within.proofs.Pieces.{name-of, base-bare, plain_type-bare, longer-bare, ArgsFit, args-fit, no-args, IndexFits, at-fits, no-index}
 use Rattle.rg_within.proofs.Pieces.{CallFits, call-behind, args-call, RightFits, value-fits, input-fits, StmtFits, BlockFits, BracedFits, ElseFits}
 use Rattle.rg_within.proofs.Pieces.{declare-fits, assigned-fits, call-fits, swap-fits, print-fits, return-fits, collect-fits, while-fits, branch-fits}
 use Rattle.rg_within.proofs.Pieces.{otherwise-fits, enter-fits, then-fits, braced, MembersFit, field-fits, method-fits, RestFits, members-rest}
@@ -44,7 +42,7 @@ Fitting form.Stmts b c d = BlockFits c d b
 Fitting form.Stmt s c d = c.signs ≡ 0 → StmtFits c d s
 Fitting form.At o c d = IndexFits c d o
 Fitting form.Giving o c d = Spent 0 c d × IfSome o IsBare
-Fitting form.Else o c d = c.brackets + 1 ≤ BRACKETS → ElseFits c d o
+Fitting form.Else o c d = ElseFits c d o
 Fitting form.Path q c d = Spent 0 c d × IsBarePath q
 Fitting form.Fields fs c d = Spent 0 c d × AllByRecursion IsBare fs
 Fitting form.Right r c d = RightFits c d r
@@ -53,7 +51,7 @@ Fitting form.Call a c d = CallFits c d a
 Fitting form.CallBase v c d = Spent 0 c d × IfSome v IsBare
 Fitting (form.CallRest q m) a c d = IsBarePath q → IsBare m → CallFits c d a
 Fitting form.Args es c d = ArgsFit c d es
-Fitting form.MoreArgs es c d = MoreArgsFit c d es
+Fitting form.MoreArgs es c d = ArgsFit c d es
 Fitting form.Expr e c d = Fits 0 c d e
 Fitting (form.OrRest a) e c d = (b : Counts) → Fits 0 b c a → Fits 0 b d e
 Fitting form.And e c d = Fits 1 c d e
@@ -96,7 +94,8 @@ module _ {source : List ℕ} where
             (name-of u.kind (text source u) f p.1.0) p.0 h j q.0 r.0 v.0 w.0,
         w.1,
       )
-  fitting (no_members {c = c} e) fine = (record { signs = tt; small = tt; brackets = refl; text = nothing c.brackets }, fine)
+  fitting (no_members {c = c} e) fine =
+      (record { signs = tt; small = tt; bare = tt; brackets = refl; room = no-room c.brackets }, fine)
   fitting (cap_row e) fine = (still, fine.1)
   fitting (plain_type {t = t} {y = y} e) fine = ((still, plain_type-bare t.kind y e), fine.1)
   fitting (ref_type {t = t} x e) fine = let p = fitting x fine in ((p.0, name-of t.kind (text source t) e p.1.0), p.1.1)
@@ -125,7 +124,7 @@ module _ {source : List ℕ} where
   fitting (manager_row e) fine = (still, fine.1)
   fitting (block_row e h x f) fine = let p = fitting x fine.1 in (braced h p.0, p.1.1)
   fitting (no_stmts {c = c} e) fine =
-      (record { signs = tt; small = tt; brackets = refl; text = λ i. nothing c.brackets }, fine)
+      (record { signs = tt; small = tt; bare = tt; brackets = refl; room = no-room c.brackets }, fine)
   fitting (more_stmts {a = a} e x y) fine = let p = fitting x fine in let q = fitting y p.1 in (then-fits a (p.0 refl) q.0, q.1)
   fitting (let_row {u = u} {y = y} e f h i x j v l) fine =
       let p = fitting x fine.1.1.1 in
@@ -155,12 +154,12 @@ module _ {source : List ℕ} where
   fitting (collect_row e f) fine = (λ z. collect-fits, fine.1.1)
   fitting (return_row e x f) fine = let p = fitting x fine.1 in (λ z. return-fits p.0 z, p.1.1)
   fitting (at_row e h x f) fine = let p = fitting x fine.1 in (at-fits h p.0, p.1.1)
-  fitting (no_at e) fine = (record { spent = still; small = tt; text = tt }, fine)
+  fitting (no_at e) fine = (no-index, fine)
   fitting (giving_row {u = u} e f h) fine = ((still, name-of u.kind (text source u) f fine.1.0), fine.1.1.1)
   fitting (no_giving e) fine = ((still, tt), fine)
-  fitting (else_row e x) fine = let p = fitting x fine.1 in (λ room. otherwise-fits p.0, p.1)
+  fitting (else_row e x) fine = let p = fitting x fine.1 in (otherwise-fits p.0, p.1)
   fitting (else_none {c = c} e) fine =
-      (λ room. record { signs = tt; small = tt; brackets = refl; text = λ i. last-line c.brackets i room }, fine)
+      (record { signs = tt; small = tt; bare = tt; brackets = refl; room = no-room c.brackets }, fine)
   fitting (path_row {t = t} {b = b} e x) fine =
       let p = fitting x fine.1 in
       ((p.0.0, record { base = base-bare t.kind (text source t) b e fine.0; fields = p.0.1 }), p.1)
@@ -169,41 +168,44 @@ module _ {source : List ℕ} where
   fitting (no_fields e) fine = ((still, tt), fine)
   fitting (new_row e x) fine = let p = fitting x fine.1 in (p.0, p.1)
   fitting (freeze_row {c = c} {u = u} e f) fine = (
-    record { spent = still; small = tt; text = freeze-stays c.brackets (text source u) (name-of u.kind (text source u) f fine.1.0) },
+    record { spent = still; small = tt; bare = name-of u.kind (text source u) f fine.1.0; room = no-room c.brackets },
     fine.1.1,
   )
   fitting (merge_row {c = c} {u = u} e f) fine = (
-    record { spent = still; small = tt; text = merge-stays c.brackets (text source u) (name-of u.kind (text source u) f fine.1.0) },
+    record { spent = still; small = tt; bare = name-of u.kind (text source u) f fine.1.0; room = no-room c.brackets },
     fine.1.1,
   )
   fitting (input_row {c = c} {t = t} {r = r} e) fine = (input-fits t.kind r c e, fine.1)
-  fitting (result_row x) fine = let p = fitting x fine in (record { spent = p.0.spent; small = p.0.small; text = p.0.text }, p.1)
+  fitting (result_row x) fine = let p = fitting x fine in (record { spent = p.0.spent; small = p.0.small; bare = p.0.bare; room = p.0.room }, p.1)
   fitting (value_row e x) fine = let p = fitting x fine in (value-fits p.0, p.1)
-  fitting (new_plain {c = c} {t = t} {o = o} e x) fine =
+  fitting (new_plain {t = t} e x) fine =
       let p = fitting x fine.1 in (
         record {
           spent = p.0.spent;
           small = p.0.small;
-          text = new-stays c.brackets (text source t) o (name-of t.kind (text source t) e fine.0) p.0.text;
+          bare = (name-of t.kind (text source t) e fine.0, p.0.bare);
+          room = p.0.room;
         },
         p.1,
       )
-  fitting (new_temporary {c = c} {u = u} {o = o} e f x) fine =
+  fitting (new_temporary {u = u} e f x) fine =
       let p = fitting x fine.1.1 in (
         record {
           spent = p.0.spent;
           small = p.0.small;
-          text = new_tmp-stays c.brackets (text source u) o (name-of u.kind (text source u) f fine.1.0) p.0.text;
+          bare = (name-of u.kind (text source u) f fine.1.0, p.0.bare);
+          room = p.0.room;
         },
         p.1,
       )
-  fitting (new_region {c = c} {u = u} {o = o} {m = m} e f x h y) fine =
+  fitting (new_region {u = u} e f x h y) fine =
       let p = fitting x fine.1.1 in
       let q = fitting y p.1.1 in (
         record {
           spent = before p.0.spent q.0;
           small = p.0.small;
-          text = new_iso-stays c.brackets (text source u) o m (name-of u.kind (text source u) f fine.1.0) p.0.text;
+          bare = (name-of u.kind (text source u) f fine.1.0, p.0.bare);
+          room = p.0.room;
         },
         q.1,
       )
@@ -216,10 +218,10 @@ module _ {source : List ℕ} where
       let p = fitting x fine.1.1 in
       (λ hq hm. p.0 (longer-bare a m hq hm) (name-of u.kind (text source u) f fine.1.0), p.1)
   fitting (call_args {q = a} {m = m} e h x f) fine = let p = fitting x fine.1 in (λ hq hm. args-call a m h hq hm p.0, p.1.1)
-  fitting (no_args {c = c} e) fine = (record { spent = still; small = tt; text = nothing c.brackets }, fine)
+  fitting (no_args e) fine = (no-args, fine)
   fitting (first_arg e x y) fine = let p = fitting x fine in let q = fitting y p.1 in (args-fit p.0 q.0, q.1)
-  fitting (next_arg e x y) fine = let p = fitting x fine.1 in let q = fitting y p.1 in (more-args-fit p.0 q.0, q.1)
-  fitting (no_more_args e) fine = (record { spent = still; small = tt; text = λ s h. h }, fine)
+  fitting (next_arg e x y) fine = let p = fitting x fine.1 in let q = fitting y p.1 in (args-fit p.0 q.0, q.1)
+  fitting (no_more_args e) fine = (no-args, fine)
   fitting (expr_row {c = c} x y) fine =
       let p = fitting x fine in let q = fitting y p.1 in (q.0 c (looser 0 1 (omega arith) p.0), q.1)
   fitting (or_row e h x y) fine =

@@ -1,5 +1,5 @@
 -- How many signs were counted, and what an expression spends of the limits.
-use Rattle.std.proofs.Common.{◌≡◌, refl, sym, ap, subst, ℕ, ◌+◌, ◌≤◌, nat_lt, Bool as Truth, true, false, List, ◌++◌, codes, Some}
+use Rattle.std.proofs.Common.{◌≡◌, refl, sym, ap, subst, ℕ, suc, ◌+◌, ◌≤◌, max, nat_lt, Bool as Truth, true, false, Some}
 use Rattle.std.proofs.Common.{Ok, arith}
 use Rattle.std.proofs.lemmas.Bool.Decides.{nat_tests}
 use Rattle.rg_base.specs.declared.limits.TheConstants.{BRACKETS, STATEMENT_SIGNS}
@@ -11,15 +11,15 @@ use Rattle.rg_tree.specs.declared.rows.BinOp.{BinOp}
 use Rattle.rg_tree.specs.declared.rows.BinOp.TheVariants.{Or, And, Eq, Ne, Lt, Le, Gt, Ge, Add, Sub, Mul, Div, Rem}
 use Rattle.rg_tree.specs.declared.counts.Counts.{Counts}
 use Rattle.rg_tree.specs.Tree.{Name, Path, Expr, number, boolean, nil, path, is_nil, neg, not, binary, size, element}
-use Rattle.rg_tree.specs.Canonical.{op_text, op_level, left_level, right_level, level, path_text, in_parens, operand, expr_text}
+use Rattle.rg_tree.specs.Canonical.{op_level, left_level, right_level, level}
 use Rattle.rg_tree.specs.Counts.{opened, closed, one_field, one_method, one_param, one_local, one_sign}
 use Rattle.rg_tree.specs.Operators.{comparison_of, sum_of, product_of, literal_of}
 use Rattle.rg_tree.proofs.Callers.{within-ok}
 use Rattle.rg_limits.specs.Signs.{expr_signs}
 use Rattle.rg_limits.specs.Numbers.{HasSmall}
-use Rattle.rg_within.proofs.Texts.{Stays, both, less, bare, enclosed, number-bare}
+use Rattle.rg_within.specs.Bare.{IsBarePath, IsBareExpr}
+use Rattle.rg_within.specs.Opens.{parens_opens, expr_opens}
 use Rattle.rg_within.proofs.Tokens.{FineKind}
-use Rattle.rg_within.proofs.PartTexts.{IsBarePath, IndexStays, op-bare, bool-bare, path-stays, index-stays}
 
 -- so many signs were counted, within the limit, and as many brackets are open
 pub record Spent (n : ℕ) (c d : Counts) : Type 0 where
@@ -108,44 +108,55 @@ shut h a =
       brackets = omega (arith, o.brackets, a.brackets);
     }
 
--- where as many are open, and where one less is
-pub as-deep : {c d : Counts} {n : ℕ} (s : List ℕ) → Spent n c d → Stays d.brackets s → Stays c.brackets s
-as-deep {c} {d} s a h = less c.brackets d.brackets s (omega (arith, a.brackets)) h
+-- so many brackets more may be open, where some are
+abbrev pub Room : (n k : ℕ) → Type 0
+Room n k = n + k ≤ max n BRACKETS
 
-pub within : {c d : Counts} (s : List ℕ) → Opened c d → Stays d.brackets s → Stays (c.brackets + 1) s
-within {c} {d} s o h = less (c.brackets + 1) d.brackets s (omega (arith, o.brackets)) h
+-- no bracket is needed
+pub no-room : (n : ℕ) → Room n 0
+no-room n = omega arith
+
+-- where as many are open, and behind a bracket
+pub as-deep : {c d : Counts} {n : ℕ} (k : ℕ) → Spent n c d → Room d.brackets k → Room c.brackets k
+as-deep k a r = omega (arith, a.brackets, r)
+
+pub within : {c d : Counts} (k : ℕ) → Opened c d → Room d.brackets k → Room c.brackets (suc k)
+within k o r = omega (arith, o.brackets, o.room, r)
 
 -- an expression where this is the least level that stands bare
 pub record Fits (least : ℕ) (c d : Counts) (e : Expr) : Type 0 where
   pub spent : Spent (expr_signs e) c d
   pub small : HasSmall e
-  pub text : Stays c.brackets (expr_text e)
-  pub placed : Stays c.brackets (operand least (level e) (expr_text e))
+  pub bare : IsBareExpr e
+  pub room : Room c.brackets (expr_opens e)
+  pub placed : Room c.brackets (parens_opens (nat_lt (level e) least) (expr_opens e))
 
 -- at a level that is less tight
-looser-by : (a b : Truth) (n m i j : ℕ) (s : List ℕ) → nat_lt m i ≡ a → nat_lt m j ≡ b → i ≤ j → Stays n s → Stays n (in_parens b s)
-    → Stays n (in_parens a s)
-looser-by true true n m i j s x y l h p = p
-looser-by true false n m i j s x y l h p = absurd (grind (arith, nat_tests))
-looser-by false b n m i j s x y l h p = h
+looser-by : (a b : Truth) (n m i j k : ℕ) → nat_lt m i ≡ a → nat_lt m j ≡ b → i ≤ j → Room n k → Room n (parens_opens b k)
+    → Room n (parens_opens a k)
+looser-by true true n m i j k x y l h p = p
+looser-by true false n m i j k x y l h p = absurd (grind (arith, nat_tests))
+looser-by false b n m i j k x y l h p = h
 
 pub looser : {c d : Counts} {e : Expr} (i j : ℕ) → i ≤ j → Fits j c d e → Fits i c d e
 looser {c} {d} {e} i j l f = record {
   spent = f.spent;
   small = f.small;
-  text = f.text;
-  placed = looser-by (nat_lt (level e) i) (nat_lt (level e) j) c.brackets (level e) i j (expr_text e) refl refl l f.text f.placed;
+  bare = f.bare;
+  room = f.room;
+  placed = looser-by (nat_lt (level e) i) (nat_lt (level e) j) c.brackets (level e) i j (expr_opens e) refl refl l f.room f.placed;
 }
 
 -- an operator of two operands
+both-room : (n i j : ℕ) → Room n i → Room n j → Room n (max i j)
+both-room n i j x y = omega (arith, x, y)
+
 module _ (op : BinOp) (a b : Expr) (c d e f : Counts) where
-  binary-text : Fits (left_level op) c d a → one_sign d ≡ Ok e → Fits (right_level op) e f b → Stays c.brackets (expr_text (binary op a b))
-  binary-text x h y =
-      let left = operand (left_level op) (level a) (expr_text a) in
-      let right = operand (right_level op) (level b) (expr_text b) in
-      both c.brackets (left ++ op_text op) right
-      (both c.brackets left (op_text op) x.placed (bare 0 c.brackets (op_text op) (op-bare op)))
-      (as-deep right x.spent (as-deep right (sign-spent h) y.placed))
+  binary-room : Fits (left_level op) c d a → one_sign d ≡ Ok e → Fits (right_level op) e f b → Room c.brackets (expr_opens (binary op a b))
+  binary-room x h y =
+      let i = parens_opens (nat_lt (level a) (left_level op)) (expr_opens a) in
+      let j = parens_opens (nat_lt (level b) (right_level op)) (expr_opens b) in
+      both-room c.brackets i j x.placed (as-deep j x.spent (as-deep j (sign-spent h) y.placed))
 
   binary-spent : Spent (expr_signs a) c d → one_sign d ≡ Ok e → Spent (expr_signs b) e f → Spent (expr_signs (binary op a b)) c f
   binary-spent x h y =
@@ -195,14 +206,15 @@ pub operator-fits : {op : BinOp} {a b : Expr} {c d e f : Counts} {l r m : ℕ} �
 operator-fits {op} {a} {b} {c} {d} {e} {f} {l} {r} {m} t x h y =
     let left : Fits (left_level op) c d a = subst (λ (i : ℕ). Fits i c d a) (sym t.left) x in
     let right : Fits (right_level op) e f b = subst (λ (i : ℕ). Fits i e f b) (sym t.right) y in
-    let text = binary-text op a b c d e f left h right in
-    let whole = expr_text (binary op a b) in
+    let room = binary-room op a b c d e f left h right in
+    let k = expr_opens (binary op a b) in
     let alone : nat_lt (op_level op) m ≡ false = by (op_level op) m t.own in
     record {
       spent = binary-spent op a b c d e f x.spent h y.spent;
       small = (x.small, y.small);
-      text = text;
-      placed = subst (λ (v : Truth). Stays c.brackets (in_parens v whole)) (sym alone) text;
+      bare = (x.bare, y.bare);
+      room = room;
+      placed = subst (λ (v : Truth). Room c.brackets (parens_opens v k)) (sym alone) room;
     }
   where
     by : (i m : ℕ) → i ≡ m → nat_lt i m ≡ false
@@ -210,74 +222,55 @@ operator-fits {op} {a} {b} {c} {d} {e} {f} {l} {r} {m} t x h y =
 
 -- signs of one operand
 pub not-fits : {a : Expr} {c d : Counts} → Fits 3 c d a → Fits 2 c d (not a)
-not-fits {a} {c} {d} x =
-    let inner = operand 3 (level a) (expr_text a) in
-    let text = both c.brackets (codes "not ") inner (bare 0 c.brackets (codes "not ") refl) x.placed in
-    record { spent = x.spent; small = x.small; text = text; placed = text }
+not-fits x = record { spent = x.spent; small = x.small; bare = x.bare; room = x.placed; placed = x.placed }
 
 pub neg-fits : {a : Expr} {c d : Counts} → Fits 7 c d a → Fits 6 c d (neg a)
-neg-fits {a} {c} {d} x =
-    let inner = operand 7 (level a) (expr_text a) in
-    let text = both c.brackets (codes "-") inner (bare 0 c.brackets (codes "-") refl) x.placed in
-    record { spent = x.spent; small = x.small; text = text; placed = text }
+neg-fits x = record { spent = x.spent; small = x.small; bare = x.bare; room = x.placed; placed = x.placed }
 
 -- in parentheses
-parens-by : (v : Truth) (n : ℕ) (s : List ℕ) → n + 1 ≤ BRACKETS → Stays (n + 1) s → Stays n (in_parens v s)
-parens-by true n s room h = enclosed n s room h
-parens-by false n s room h = less n (n + 1) s (omega arith) h
+parens-by : (v : Truth) (n k : ℕ) → Room n (suc k) → Room n (parens_opens v k)
+parens-by true n k r = r
+parens-by false n k r = omega (arith, r)
 
 pub parens-fits : {a : Expr} {c d e : Counts} → opened c ≡ Ok d → Fits 0 d e a → Fits 7 c (closed e) a
-parens-fits {a} {c} {d} {e} h x =
-    let o = opened-so h in
-    let inner = within (expr_text a) o x.text in
+parens-fits {a} {c} h x =
+    let room : Room c.brackets (suc (expr_opens a)) = within (expr_opens a) (opened-so h) x.room in
     record {
       spent = shut h x.spent;
       small = x.small;
-      text = parens-by false c.brackets (expr_text a) o.room inner;
-      placed = parens-by (nat_lt (level a) 7) c.brackets (expr_text a) o.room inner;
+      bare = x.bare;
+      room = parens-by false c.brackets (expr_opens a) room;
+      placed = parens-by (nat_lt (level a) 7) c.brackets (expr_opens a) room;
     }
 
--- without signs
+-- without signs and brackets
 pub path-fits : {c d : Counts} (q : Path) → Spent 0 c d → IsBarePath q → Fits 7 c d (path q)
-path-fits {c} q x h = let text = path-stays c.brackets q h in record { spent = x; small = tt; text = text; placed = text }
+path-fits {c} q x h = record { spent = x; small = tt; bare = h; room = no-room c.brackets; placed = no-room c.brackets }
 
 pub is_nil-fits : {c d : Counts} (q : Path) → Spent 0 c d → IsBarePath q → Fits 7 c d (is_nil q)
-is_nil-fits {c} q x h =
-    let text = both c.brackets (path_text q) (codes " is nil") (path-stays c.brackets q h) (bare 0 c.brackets (codes " is nil") refl) in
-    record { spent = x; small = tt; text = text; placed = text }
+is_nil-fits {c} q x h = record { spent = x; small = tt; bare = h; room = no-room c.brackets; placed = no-room c.brackets }
 
 pub size-fits : {c d : Counts} (q : Path) → Spent 0 c d → IsBarePath q → Fits 7 c d (size q)
-size-fits {c} q x h =
-    let text = both c.brackets (codes "size ") (path_text q) (bare 0 c.brackets (codes "size ") refl) (path-stays c.brackets q h) in
-    record { spent = x; small = tt; text = text; placed = text }
-
--- an index, and an element
-pub index-fits : {a : Expr} {d e : Counts} (c : Counts) → opened c ≡ Ok d → Fits 0 d e a → IndexStays c.brackets a
-index-fits {a} c h x = let o = opened-so h in record { room = o.room; text = within (expr_text a) o x.text }
+size-fits {c} q x h = record { spent = x; small = tt; bare = h; room = no-room c.brackets; placed = no-room c.brackets }
 
 pub element-fits : {a : Expr} {b c d e : Counts} (q : Path) → Spent 0 b c → IsBarePath q → opened c ≡ Ok d → Fits 0 d e a
     → Fits 7 b (closed e) (element q a)
-element-fits {a} {b} {c} q s p h x =
-    let i = index-fits c h x in
-    let text = as-deep (expr_text (element q a)) s (index-stays c.brackets (path_text q) a i.room (path-stays c.brackets q p) i.text) in
-    record { spent = behind s (shut h x.spent); small = x.small; text = text; placed = text }
+element-fits {a} {b} q s p h x =
+    let room : Room b.brackets (suc (expr_opens a)) = as-deep (suc (expr_opens a)) s (within (expr_opens a) (opened-so h) x.room) in
+    record { spent = behind s (shut h x.spent); small = x.small; bare = (p, x.bare); room = room; placed = room }
 
 -- a token that is an expression by itself
 pub literal-fits : (x : Kind) (n : Name) (a : Expr) (c : Counts) → literal_of x ≡ Some a → FineKind x n → Fits 7 c c a
 literal-fits (k.Number z) n a c h f =
     let e : number z ≡ a = cc in
-    let text = bare 0 c.brackets (expr_text (number z)) (number-bare z f) in
-    subst (Fits 7 c c) e (record { spent = still; small = f; text = text; placed = text })
+    subst (Fits 7 c c) e (record { spent = still; small = f; bare = f; room = no-room c.brackets; placed = no-room c.brackets })
 literal-fits (k.Word w.True) n a c h f =
     let e : boolean true ≡ a = cc in
-    let text = bare 0 c.brackets (expr_text (boolean true)) (bool-bare true) in
-    subst (Fits 7 c c) e (record { spent = still; small = tt; text = text; placed = text })
+    subst (Fits 7 c c) e (record { spent = still; small = tt; bare = tt; room = no-room c.brackets; placed = no-room c.brackets })
 literal-fits (k.Word w.False) n a c h f =
     let e : boolean false ≡ a = cc in
-    let text = bare 0 c.brackets (expr_text (boolean false)) (bool-bare false) in
-    subst (Fits 7 c c) e (record { spent = still; small = tt; text = text; placed = text })
+    subst (Fits 7 c c) e (record { spent = still; small = tt; bare = tt; room = no-room c.brackets; placed = no-room c.brackets })
 literal-fits (k.Word w.Nil) n a c h f =
     let e : nil ≡ a = cc in
-    let text = bare 0 c.brackets (expr_text nil) refl in
-    subst (Fits 7 c c) e (record { spent = still; small = tt; text = text; placed = text })
+    subst (Fits 7 c c) e (record { spent = still; small = tt; bare = tt; room = no-room c.brackets; placed = no-room c.brackets })
 literal-fits _ n a c h f = cc

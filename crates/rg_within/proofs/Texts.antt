@@ -10,6 +10,7 @@ use Rattle.std.proofs.lemmas.Bool.Decides.{nat_tests}
 use Rattle.rg_base.specs.declared.limits.TheConstants.{BRACKETS, GREATEST_NUMBER}
 use Rattle.rg_tree.specs.Canonical.{line_of, in_parens}
 use Rattle.rg_limits.specs.Brackets.{opens, closes, open_behind, most_open_from}
+use Rattle.rg_within.specs.Bare.{is_bracket}
 
 -- In front of the text i more than some are open, and behind it j more. Where these are n at most, and what follows passes no limit, neither does
 -- the text with it.
@@ -46,9 +47,6 @@ inside n s x m rest l h =
     (x (1 + m) rest (omega (arith, l)) (subst (λ (k : ℕ). most_open_from k rest ≤ BRACKETS) (sym e) h))
 
 -- A text without brackets
-
-abbrev pub is_bracket : ℕ → Truth
-is_bracket b = opens b || closes b
 
 or-parts : (x y : Truth) → (x || y) ≡ false → (x ≡ false) × (y ≡ false)
 or-parts true y h = cc
