@@ -1,4 +1,4 @@
-use Rattle.std.proofs.Common.{sym, ◌∙◌, ap, ◌++◌, arith}
+use Rattle.std.proofs.Common.{◌∙◌, ap, ◌++◌, arith}
 use Rattle.rg_sched.specs.Settings.{setting_of}
 use Rattle.rg_sched.specs.Events.{world_after}
 use Rattle.rg_world_text.specs.Text.{behaviour_text}
