@@ -1,0 +1,2 @@
+-- The text of a world (docs/architecture.md, "Worlds").
+pub mod Text
