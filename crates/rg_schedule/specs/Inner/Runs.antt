@@ -1,5 +1,5 @@
 -- What the next number of a schedule names (docs/architecture.md, "Worlds").
-use Rattle.std.specs.Prelude.{◌≡◌, ◌⊎◌, ℕ, ℤ, List, Option, Some, None, Result, Ok, Err}
+use Rattle.std.specs.Prelude.{◌≡◌, ℕ, ℤ, List, Option, Some, None, Result, Ok, Err}
 use Rattle.rg_base.specs.Input.{NextNumber, found, malformed, at_end, next_number}
 use Rattle.rg_input.specs.declared.refusal.InputFault.{InputFault}
 use Rattle.rg_schedule.specs.Schedules.{behaviour_of}
