@@ -2,7 +2,8 @@
 # Lists each public call of each crate with what it refuses, and with the clauses of its contract that say when a refusal
 # comes and what holds behind it. A call is public where its crate's lib.rt names it, or its type, in a `pub use`; the calls
 # of traits are listed with the trait and with each type that has them, there with the trait's clauses. Calls that Rust
-# derives (`clone`, `eq`), `drop` and views aren't listed, nor programs, which hand out nothing.
+# derives (`clone`, `eq`), `drop`, views and the conversions that `?` makes (`from`, of which `from_gives` tells) aren't
+# listed, nor programs, which hand out nothing.
 # What a clause says is read off its form: an equation with `result` tells of each answer; `OnErr`, `IfErr`, `IfNone` and
 # `result ≡ ..` tell of the refusal that they name; of a relation that takes `result` the definition is followed, case by
 # case, to see which answers it tells of, and what it says there of the arguments that may be written.
@@ -390,7 +391,7 @@ def calls_of(crate):
             if (m := re.match(r"pub trait (\w+)", item)) and m[1] in given:
                 for _, *rest in functions(item, "    "): yield Call(crate, file, m[1], *rest, "")
             elif (m := re.match(r"impl(?:<[^{]*?>)? (?:([\w:<>, ']+) for )?(\w+)", item)) and m[2] in given:
-                if m[1] and m[1].split("<")[0] in ("Model", "Drop"): continue
+                if m[1] and m[1].split("<")[0] in ("Model", "Drop", "From"): continue
                 for public, *rest in functions(item, "    "):
                     if public or m[1]: yield Call(crate, file, m[2], *rest, m[1] or "")
             elif (m := re.match(r"pub (?:ghost )?fn (\w+)", item)) and given.get(m[1]) == os.path.basename(file)[:-3]:

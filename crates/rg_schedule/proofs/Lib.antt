@@ -1,0 +1,2 @@
+-- Lemmas on schedules that are run.
+mod Numbered

@@ -1,0 +1,17 @@
+use Rattle.std.proofs.Common.{◌≤◌, ◌-◌}
+use Rattle.rg_input.specs.Numbers.{Follows}
+use Rattle.rg_tree.specs.Rows.RowTrees.{program_of}
+use Rattle.rg_schedule.specs.declared.limits.TheConstants.{SCHEDULE}
+use Rattle.rg_schedule.proofs.Numbered.{SoFar}
+use Rattle.rg_schedule.proofs.running.run.Given as goal
+
+abbrev pub invariant-loop-world : goal.invariant-loop-world
+invariant-loop-world g l = record {
+  so_far : SoFar (program_of l.accepted.program) l.code l.plan l.fn.images.items l.fn.schedule l.schedule (g.S.Source.left l.fn.source)
+      (g.S.Source.left l.source) l.taken l.world;
+  follows : Follows l.schedule (g.S.Source.left l.source);
+  never_falls : g.S.Source.faults l.fn.source ≤ g.S.Source.faults l.source;
+}
+
+abbrev pub decreases-loop-world : goal.decreases-loop-world
+decreases-loop-world g l = SCHEDULE - l.taken

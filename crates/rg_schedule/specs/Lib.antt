@@ -1,0 +1,3 @@
+-- The definitions that the clauses of rg_schedule name (docs/architecture.md, "Worlds").
+pub mod Schedules
+pub mod Inner

@@ -1,0 +1,12 @@
+//! Schedules on an input (docs/architecture.md, "Worlds"). `run` makes the events of a whole
+//! schedule, which is the numbers on an input (`schedule_of` of `specs/Schedules`), and answers the
+//! world behind it, or why there is none.
+#![tactic(auto)]
+
+mod limits;
+mod running;
+mod stop;
+
+pub use limits::SCHEDULE;
+pub use running::run;
+pub use stop::SchedStop;
