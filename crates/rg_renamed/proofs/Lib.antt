@@ -2,11 +2,11 @@
 mod Behind
 mod Blocks
 mod BlocksFound
+mod Brackets
 mod Classes
 mod Environments
 mod Examples
 mod Expressions
-mod FewerBrackets
 mod Follows
 mod Headers
 mod Limits

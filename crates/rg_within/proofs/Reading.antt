@@ -14,7 +14,7 @@ use Rattle.rg_tree.specs.Grammar.{input_row, result_row, value_row, new_plain, n
 use Rattle.rg_tree.specs.Grammar.{call_args, no_args, first_arg, next_arg, no_more_args, expr_row, or_row, no_or, and_row, and_further, no_and}
 use Rattle.rg_tree.specs.Grammar.{not_row, no_not, cmp_row, compared, not_compared, sum_row, sum_further, no_sum, mul_row, mul_further, no_mul, minus}
 use Rattle.rg_tree.specs.Grammar.{no_minus, literal, parens, path_value, is_row, no_is}
-use Rattle.rg_within.specs.Bare.{IsBare, IsBarePath, IsBareType, IsBareParam}
+use Rattle.rg_limits.specs.Bare.{IsBare, IsBarePath, IsBareType, IsBareParam}
 use Rattle.rg_within.proofs.Tokens.{AreFine}
 use Rattle.rg_within.proofs.Spent.{Spent, still, behind, before, local-spent, param-spent, field-spent, no-room, Fits, looser, or-levels, and-levels}
 use Rattle.rg_within.proofs.Spent.{comparison-levels, sum-levels, product-levels, operator-fits, not-fits, neg-fits, parens-fits, path-fits, is_nil-fits}
