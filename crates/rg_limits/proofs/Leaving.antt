@@ -1,5 +1,6 @@
 -- What is left behind the parts of a list, counted down.
-use Rattle.std.proofs.Common.{◌≡◌, refl, sym, ℕ, zero, suc, ◌+◌, ◌-◌, ◌≤◌, ◌<◌, max, nat_lt, Bool as Truth, true, false, Option, Some, None, List, [], ◌∷◌, drop, map, get_or, length}
+use Rattle.std.proofs.Common.{◌≡◌, refl, sym, ℕ, zero, suc, ◌+◌, ◌-◌, ◌≤◌, ◌<◌, max, nat_lt, Bool as Truth, true, false, Option, Some, None, List}
+use Rattle.std.proofs.Common.{[], ◌∷◌, drop, map, get_or, length}
 use Rattle.std.proofs.Common.{subst, arith}
 use Rattle.std.proofs.lemmas.List.{drop_more, drop_all}
 use Rattle.std.specs.Prelude.{⊤}
@@ -24,12 +25,8 @@ both left rest a b P Q None one two = λ fits holds. two (omega (arith, one.0, f
 pub first-fails : (left a b : ℕ) (P Q : Type 0) → Leaves left a P None → Leaves left (a + b) (P × Q) None
 first-fails left a b P Q one = λ fits holds. one (omega (arith, fits)) holds.0
 
--- nothing is taken
-pub Leaves-all : (left : ℕ) → Leaves left 0 ⊤ (Some left)
-Leaves-all left = (omega arith, tt)
-
 -- what is left where the same is said otherwise
-pub Leaves-same : (left taken : ℕ) (P Q : Type 0) (o : Option ℕ) → (P → Q) → (Q → P) → Leaves left taken P o → Leaves left taken Q o
+Leaves-same : (left taken : ℕ) (P Q : Type 0) (o : Option ℕ) → (P → Q) → (Q → P) → Leaves left taken P o → Leaves left taken Q o
 Leaves-same left taken P Q (Some r) to from h = (h.0, to h.1)
 Leaves-same left taken P Q None to from h = λ fits holds. h fits (from holds)
 
@@ -45,10 +42,6 @@ in-brackets left taken opens room P o some h =
     more zero z l = absurd (z refl)
     more (suc n) z l = omega (arith, l)
 
--- where none may
-pub no-brackets : (left taken opens room : ℕ) (P : Type 0) → room ≡ 0 → Leaves left taken (P × (suc opens ≤ room)) None
-no-brackets left taken opens room P none = λ fits holds. omega (arith, none, holds.1)
-
 -- two parts, one behind the other
 pub two-parts : (left rest a b x y room : ℕ) (P Q : Type 0) (o : Option ℕ) → Leaves left a (P × (x ≤ room)) (Some rest)
     → Leaves rest b (Q × (y ≤ room)) o → Leaves left (a + b) ((P × Q) × (max x y ≤ room)) o
@@ -56,11 +49,6 @@ two-parts left rest a b x y room P Q o one two =
     Leaves-same left (a + b) ((P × (x ≤ room)) × (Q × (y ≤ room))) ((P × Q) × (max x y ≤ room)) o
     (λ q. ((q.0.0, q.1.0), omega (arith, q.0.1, q.1.1))) (λ q. ((q.0.0, omega (arith, q.1)), (q.0.1, omega (arith, q.1))))
     (both left rest a b (P × (x ≤ room)) (Q × (y ≤ room)) o one two)
-
--- where the first is refused
-pub no-first : (left a b x y room : ℕ) (P Q : Type 0) → Leaves left a (P × (x ≤ room)) None
-    → Leaves left (a + b) ((P × Q) × (max x y ≤ room)) None
-no-first left a b x y room P Q one = λ fits holds. one (omega (arith, fits)) (holds.0.0, omega (arith, holds.1))
 
 -- one is taken in front
 pub one-taken : (left taken : ℕ) (P : Type 0) (o : Option ℕ) → (left ≡ 0 → ⊥) → Leaves (left - 1) taken P o → Leaves left (suc taken) P o

@@ -203,7 +203,8 @@ elements-stay t h =
 pub head-stays : (m : Method) → IsBare m.name → AllByRecursion IsBareParam m.params → IfSome m.result IsBareType → Stays 1 (head_text m)
 head-stays m name params result =
     let front = (cap_text m.receiver ++ codes " ") ++ m.name in
-    let begins : Stays 0 front = so 0 (plain (cap_text m.receiver) (cap-bare m.receiver) & plain (codes " ") refl & plain m.name name) (omega arith) in
+    let begins : Stays 0 front =
+    so 0 (plain (cap_text m.receiver) (cap-bare m.receiver) & plain (codes " ") refl & plain m.name name) (omega arith) in
     so 1 (of 1 (((front ++ codes "(") ++ joined (param_texts m.params)) ++ codes ")")
     (around 40 41 0 front (joined (param_texts m.params)) refl refl refl begins (params-stay m.params params))
     & of 0 (result_text m.result) (result-stays m.result result)) (omega arith)

@@ -1,5 +1,5 @@
 -- What the parts that are tested say together.
-use Rattle.std.proofs.Common.{ℕ, suc, ◌≤◌, Bool as Truth, true, false, List, [], ◌∷◌, All, arith}
+use Rattle.std.proofs.Common.{suc, ◌≤◌, Bool as Truth, true, false, List, [], ◌∷◌, All, arith}
 use Rattle.std.specs.List.{AllByRecursion}
 use Rattle.std.proofs.lemmas.List.Elements.{recursion_from_All, All-from_recursion}
 use Rattle.rg_base.specs.declared.limits.TheConstants.{BRACKETS, BODY_NAMES}
@@ -7,7 +7,7 @@ use Rattle.rg_tree.specs.Tree.{stmt, StmtKind, declare, assign, assign_element, 
 use Rattle.rg_tree.specs.Tree.{Else, no_else, otherwise, Block, empty, then as next, Member, field, method, Class, Tree}
 use Rattle.rg_rules.specs.Names.{block_names, HasFewNames}
 use Rattle.rg_limits.specs.Parts.{HasFewParts}
-use Rattle.rg_limits.specs.Opens.{block_opens, member_opens, members_opens, class_opens, classes_opens, tree_opens}
+use Rattle.rg_limits.specs.Opens.{block_opens, members_opens, classes_opens}
 use Rattle.rg_limits.specs.Each.{HoldsWithin, HoldsBehind, HoldsInBlock, HoldsInMember}
 use Rattle.rg_limits.specs.Signs.{HasFewOwnSigns}
 use Rattle.rg_limits.specs.Numbers.{HasOwnSmall}

@@ -1,5 +1,5 @@
 -- The canonical text of a program with the brackets of its own alone opens as many as its parts say.
-use Rattle.std.proofs.Common.{◌≡◌, ◌∙◌, sym, ap, ℕ, suc, ◌+◌, max, nat_lt, Bool as Truth, true, false, List, [], ◌∷◌, ◌++◌, codes, flat_map, append-nil}
+use Rattle.std.proofs.Common.{◌≡◌, sym, ap, ℕ, suc, ◌+◌, max, nat_lt, Bool as Truth, true, false, List, [], ◌∷◌, ◌++◌, codes, flat_map, append-nil}
 use Rattle.std.proofs.Common.{Option, Some, None, IfSome, subst, refl, arith}
 use Rattle.std.specs.List.{AllByRecursion}
 use Rattle.rg_base.specs.Text.{bool_text}
@@ -8,16 +8,20 @@ use Rattle.rg_tree.specs.Tree.{Right, value, new, new_tmp, new_iso, freeze, merg
 use Rattle.rg_tree.specs.Tree.{stmt, StmtKind, declare, assign, assign_element, call, swap, branch, while, enter, print, collect, return}
 use Rattle.rg_tree.specs.Tree.{Else, no_else, otherwise, Block, empty, then as next, Member, field, method, Class, Tree}
 use Rattle.rg_tree.specs.Canonical.{op_text, left_level, right_level, level, path_text, in_parens, operand, expr_text, joined, arg_texts, call_text}
-use Rattle.rg_tree.specs.Canonical.{size_text, right_text, giving_text, line_of, kind_text, else_text, block_text, head_text, member_text, class_word}
+use Rattle.rg_tree.specs.Canonical.{size_text, right_text, giving_text, line_of, kind_text, else_text, block_text, head_text, member_text}
+use Rattle.rg_tree.specs.Canonical.{class_word}
 use Rattle.rg_tree.specs.Canonical.{rest_text, class_text, manager_text, canon}
 use Rattle.rg_limits.specs.Brackets.{most_open_from, most_open}
-use Rattle.rg_limits.specs.Bare.{IsBareExpr, IsBareCall, IsBareRight, IsBareKind, IsBareElse, IsBareBlock, IsBareMember, HasBareMembers, IsBareClass}
+use Rattle.rg_limits.specs.Bare.{IsBareExpr, IsBareCall, IsBareRight, IsBareKind, IsBareElse, IsBareBlock, IsBareMember, HasBareMembers}
+use Rattle.rg_limits.specs.Bare.{IsBareClass}
 use Rattle.rg_limits.specs.Bare.{IsBareTree}
 use Rattle.rg_limits.specs.Opens.{parens_opens, expr_opens, exprs_opens, call_opens, index_opens, right_opens, kind_opens, else_opens, block_opens}
 use Rattle.rg_limits.specs.Opens.{member_opens, members_opens, classes_opens, tree_opens}
-use Rattle.rg_limits.proofs.Texts.{Goes, Stays, goes, both, nothing, as-many, bare, opening, enclosed, line-stays, opening-line, closing-line, last-line}
+use Rattle.rg_limits.proofs.Texts.{Goes, Stays, goes, both, nothing, as-many, bare, opening, enclosed, line-stays, opening-line, closing-line}
+use Rattle.rg_limits.proofs.Texts.{last-line}
 use Rattle.rg_limits.proofs.Texts.{between, framed, number-bare}
-use Rattle.rg_limits.proofs.PartTexts.{◌&◌, plain, of, so, op-bare, bool-bare, path-stays, index-stays, new-stays, new_tmp-stays, new_iso-stays, call-stays}
+use Rattle.rg_limits.proofs.PartTexts.{◌&◌, plain, of, so, op-bare, bool-bare, path-stays, index-stays, new-stays, new_tmp-stays, new_iso-stays}
+use Rattle.rg_limits.proofs.PartTexts.{call-stays}
 use Rattle.rg_limits.proofs.PartTexts.{giving-stays, element-stays, elements-stay, freeze-stays, merge-stays, let-stays, assign-stays, swap-stays}
 use Rattle.rg_limits.proofs.PartTexts.{enter-stays, after-stays, ended-stays, field-stays, head-stays, main-stays, class-stays}
 

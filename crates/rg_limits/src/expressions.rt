@@ -73,13 +73,7 @@ pub fn left_in_brackets(program: &Program, e: u32, room: usize, left: usize) -> 
 // The signs left behind an operand, which is in parentheses where its level is below the least that
 // stands bare.
 #[cycle(expression)]
-fn left_in_operand(
-    program: &Program,
-    least: u8,
-    e: u32,
-    room: usize,
-    left: usize,
-) -> Option<usize>
+fn left_in_operand(program: &Program, least: u8, e: u32, room: usize, left: usize) -> Option<usize>
     requires { IsExprNumber program.now e }
     ensures { let a = expr_at program.now e in
         Leaves left (expr_signs a)
@@ -112,12 +106,7 @@ pub fn left_behind_args(program: &Program, args: Span, room: usize, left: usize)
 }
 
 // The signs left behind a size, where there is one.
-fn left_behind_size(
-    program: &Program,
-    size: Option<u32>,
-    room: usize,
-    left: usize,
-) -> Option<usize>
+fn left_behind_size(program: &Program, size: Option<u32>, room: usize, left: usize) -> Option<usize>
     requires { IfSome size (IsExprNumber program.now) }
     ensures { let o = option_map (expr_at program.now) size in
         Leaves left (exprs_signs (option_to_list o))
@@ -130,12 +119,7 @@ fn left_behind_size(
 }
 
 /// The signs left behind a right side.
-pub fn left_behind_right(
-    program: &Program,
-    right: Right,
-    room: usize,
-    left: usize,
-) -> Option<usize>
+pub fn left_behind_right(program: &Program, right: Right, room: usize, left: usize) -> Option<usize>
     requires { IsRightIn program.now right }
     ensures { let r = right_of program.now right in
         Leaves left (exprs_signs (right_exprs r))

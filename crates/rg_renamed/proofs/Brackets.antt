@@ -1,14 +1,18 @@
 -- With numbers for names a program has as many brackets in one another as before.
-use Rattle.std.proofs.Common.{◌≡◌, refl, sym, ap, ◌∙◌, subst, ℕ, suc, ◌+◌, ◌≤◌, max, nat_lt, Bool as Truth, true, false, List, [], ◌∷◌, ◌++◌, length}
+use Rattle.std.proofs.Common.{◌≡◌, refl, sym, ap, ◌∙◌, subst, ℕ, suc, ◌+◌, ◌≤◌, max, nat_lt, Bool as Truth, true, false, List, [], ◌∷◌, ◌++◌}
+use Rattle.std.proofs.Common.{length}
 use Rattle.std.proofs.Common.{map, filter_map, Option, Some, None, option_map, arith}
 use Rattle.rg_base.specs.declared.limits.TheConstants.{BRACKETS}
-use Rattle.rg_tree.specs.Tree.{Name, Variable, Expr, number, boolean, nil, path, is_nil, neg, not, binary, size, element, Right, value, new, new_tmp}
+use Rattle.rg_tree.specs.Tree.{Name, Variable, Expr, number, boolean, nil, path, is_nil, neg, not, binary, size, element, Right, value, new}
+use Rattle.rg_tree.specs.Tree.{new_tmp}
 use Rattle.rg_tree.specs.Tree.{new_iso, freeze, merge, read, more, result_of, stmt, StmtKind, declare, assign, assign_element, call, swap, branch}
-use Rattle.rg_tree.specs.Tree.{while, enter, print, collect, return, Else, no_else, otherwise, Block, empty, then as next, Field, Member, field, method}
+use Rattle.rg_tree.specs.Tree.{while, enter, print, collect, return, Else, no_else, otherwise, Block, empty, then as next, Field, Member, field}
+use Rattle.rg_tree.specs.Tree.{method}
 use Rattle.rg_tree.specs.Tree.{Class, Tree}
 use Rattle.rg_tree.specs.Canonical.{level, left_level, right_level}
 use Rattle.rg_rules.specs.Types.{field_member, method_member}
-use Rattle.rg_limits.specs.Opens.{parens_opens, expr_opens, exprs_opens, index_opens, right_opens, kind_opens, else_opens, block_opens, members_opens}
+use Rattle.rg_limits.specs.Opens.{parens_opens, expr_opens, exprs_opens, index_opens, right_opens, kind_opens, else_opens, block_opens}
+use Rattle.rg_limits.specs.Opens.{members_opens}
 use Rattle.rg_limits.specs.Opens.{class_opens, classes_opens, tree_opens}
 use Rattle.rg_limits.specs.Limits.{IsWithinLimits}
 use Rattle.rg_code.specs.Lowering.{Scope, slot_of, method_scope, scope_behind, scope_inside, scope_at_end}
@@ -16,7 +20,8 @@ use Rattle.rg_verify.specs.Raised.{named}
 use Rattle.rg_verify.specs.Statements as numbers
 use Rattle.rg_verify.specs.Found as found
 use Rattle.rg_verify.specs.Found.{right_named, kind_named, else_named, block_named}
-use Rattle.rg_numbered.specs.Numbered.{numbered, numbered_right, numbered_assign, numbered_swap, numbered_enter, giving_slot, numbered_kind, numbered_else}
+use Rattle.rg_numbered.specs.Numbered.{numbered, numbered_right, numbered_assign, numbered_swap, numbered_enter, giving_slot, numbered_kind}
+use Rattle.rg_numbered.specs.Numbered.{numbered_else}
 use Rattle.rg_numbered.specs.Numbered.{numbered_block}
 use Rattle.rg_renamed.specs.Renamed.{renamed_method, renamed_field, renamed_from, renamed_members, renamed_class, renamed}
 use Rattle.rg_renamed.proofs.Limits.{parts-again, names-again, signs-again, small-again}

@@ -19,7 +19,8 @@ use Rattle.rg_tree.proofs.Callers.{within-ok}
 use Rattle.rg_limits.specs.Each.{right_exprs, HoldsWithin, HoldsBehind, HoldsInBlock, HoldsInMember, HoldsOfEach}
 use Rattle.rg_limits.specs.Signs.{expr_signs, exprs_signs, HasFewOwnSigns}
 use Rattle.rg_limits.specs.Numbers.{HasSmall, HasOwnSmall}
-use Rattle.rg_limits.specs.Bare.{IsBare, IsBarePath, IsBareType, IsBareExpr, IsBareCall, IsBareRight, IsBareKind, IsBareElse, IsBareBlock, IsBareParam}
+use Rattle.rg_limits.specs.Bare.{IsBare, IsBarePath, IsBareType, IsBareExpr, IsBareCall, IsBareRight, IsBareKind, IsBareElse, IsBareBlock}
+use Rattle.rg_limits.specs.Bare.{IsBareParam}
 use Rattle.rg_limits.specs.Bare.{IsBareMember, HasBareMembers, IsBareClass, IsBareTree}
 use Rattle.rg_limits.specs.Opens.{expr_opens, exprs_opens, call_opens, index_opens, right_opens, kind_opens, else_opens, block_opens}
 use Rattle.rg_limits.specs.Opens.{members_opens, class_opens, tree_opens}

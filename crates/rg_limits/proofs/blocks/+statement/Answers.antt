@@ -1,9 +1,12 @@
-use Rattle.std.proofs.Common.{◌-◌, ◌<◌, length, arith}
+use Rattle.std.proofs.Common.{◌-◌, ◌<◌, Some, None, length, arith}
 use Rattle.std.proofs.lemmas.List.Elements.{All-get_or}
-use Rattle.rg_tree.specs.Rows.RowTrees.{stmt_at}
+use Rattle.rg_tree.specs.Rows.RowTrees.{block_of, stmt_at}
 use Rattle.rg_tree.specs.Rows.Tables.{numbers_in}
 use Rattle.rg_tree.proofs.Callers.{below-above, IsBlockIn-below, above-below, IsBlockIn-below_some, above_some-below}
-use Rattle.rg_rules.specs.Names.{stmt_names}
+use Rattle.rg_rules.specs.Names.{block_names, stmt_names}
+use Rattle.rg_limits.specs.Each.{HoldsInBlock}
+use Rattle.rg_limits.specs.Opens.{block_opens}
+use Rattle.rg_limits.specs.Inner.Fine.{IsFine}
 use Rattle.rg_limits.proofs.Leaving.{in-brackets, no-args, numbers_names, AreFine, IsOneFine, block-first, goes-on, ends-there, at-end}
 use Rattle.rg_limits.proofs.blocks.+statement.Goals as goal
 
@@ -18,8 +21,9 @@ left_in_braces-left_in_stmt-requires t c =
 pub left_in_braces-returns-in_default : goal.left_in_braces-returns-in_default
 left_in_braces-returns-in_default t c =
     let at = stmt_at c.args.program.now in
+    let b = block_of c.args.program.now c.args.block in
     let inner = c.args.room - 1 in
-    in-brackets _ _ _ c.args.room _ _ c.if-room-eq0.false
+    in-brackets c.args.left (block_names b) (block_opens b) c.args.room (HoldsInBlock IsFine b) None c.if-room-eq0.false
     (ends-there (numbers_names at) (AreFine inner at) (λ k. stmt_names (at k)) (IsOneFine inner at) (block-first inner at) _ _ _ _ _
     c.loop-n-test.true c.loop-n.invariant c.in_default.ensures)
 
@@ -33,8 +37,9 @@ left_in_braces-loop-n-preserved t c =
 pub left_in_braces-returns : goal.left_in_braces-returns
 left_in_braces-returns t c =
     let at = stmt_at c.args.program.now in
+    let b = block_of c.args.program.now c.args.block in
     let inner = c.args.room - 1 in
-    in-brackets _ _ _ c.args.room _ _ c.if-room-eq0.false
+    in-brackets c.args.left (block_names b) (block_opens b) c.args.room (HoldsInBlock IsFine b) (Some c.loop-n.rest) c.if-room-eq0.false
     (at-end (numbers_names at) (AreFine inner at) (λ k. stmt_names (at k)) (IsOneFine inner at) (block-first inner at) _ _ _ _ _
     c.loop-n-test.false c.loop-n.invariant (no-args inner c.loop-n.rest))
 
