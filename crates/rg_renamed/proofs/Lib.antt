@@ -2,7 +2,6 @@
 mod Behind
 mod Blocks
 mod BlocksFound
-mod Brackets
 mod Classes
 mod Environments
 mod Examples
@@ -15,6 +14,7 @@ mod Names
 mod Numbered
 mod NumberedCode
 mod NumberedMaps
+mod Opens
 mod Parameters
 mod Paths
 mod Scopes
