@@ -13,7 +13,6 @@ abbrev seven : Tree
 seven = record { classes = []; manager = manager.Arena; body = next (stmt 1 (print (number (pos 7)))) empty; line = 1 }
 
 seven-within : IsWithinLimits seven
-unfolding digits
 seven-within = record {
   parts = record { classes = omega arith; members = tt };
   names = record { methods = λ k d l. absurd (omega arith); main = omega arith };

@@ -1,14 +1,14 @@
 -- With numbers for names a program has as many parts, names and signs as before, and the same numbers.
-use Rattle.std.proofs.Common.{◌≡◌, refl, sym, ap, ◌∙◌, subst, ℕ, zero, suc, ◌+◌, ◌≤◌, Bool as Truth, true, false, List, [], ◌∷◌, ◌++◌, length, map}
+use Rattle.std.proofs.Common.{◌≡◌, refl, sym, ap, ◌∙◌, subst, ℕ, suc, ◌+◌, ◌≤◌, Bool as Truth, true, false, List, [], ◌∷◌, ◌++◌, length, map}
 use Rattle.std.proofs.Common.{filter_map, All, Option, Some, None, option_map, option_to_list}
 use Rattle.std.specs.List.{AllByRecursion}
 use Rattle.std.proofs.lemmas.List.Elements.{recursion_from_All, All-from_recursion}
 use Rattle.rg_base.specs.declared.limits.TheConstants.{CLASSES, CLASS_FIELDS, CLASS_METHODS, PARAMETERS, BODY_NAMES, STATEMENT_SIGNS}
 use Rattle.rg_tree.specs.Tree.{Name, Variable, Expr, number, boolean, nil, path, is_nil, neg, not, binary, size, element, Right, value, new, new_tmp}
 use Rattle.rg_tree.specs.Tree.{new_iso, freeze, merge, read, more, result_of, stmt, StmtKind, declare, assign, assign_element, call, swap, branch}
-use Rattle.rg_tree.specs.Tree.{while, enter, print, collect, return, Else, no_else, otherwise, Block, empty, then as next, Param, Field, Method}
+use Rattle.rg_tree.specs.Tree.{while, enter, print, collect, return, Else, no_else, otherwise, Block, empty, then as next, Field, Method}
 use Rattle.rg_tree.specs.Tree.{Member, field, method, Class, Tree}
-use Rattle.rg_rules.specs.Names.{kind_names, else_names, block_names, method_names, HasFewNames, FewNames}
+use Rattle.rg_rules.specs.Names.{kind_names, else_names, block_names, HasFewNames, FewNames}
 use Rattle.rg_rules.specs.Types.{field_member, method_member}
 use Rattle.rg_limits.specs.Parts.{HasFewMembers, HasFewParts}
 use Rattle.rg_limits.specs.Each.{right_exprs, own_exprs, HoldsWithin, HoldsBehind, HoldsInBlock, HoldsInMember, HoldsOfEach}
@@ -21,8 +21,7 @@ use Rattle.rg_verify.specs.Found as found
 use Rattle.rg_verify.specs.Found.{right_named, kind_named, else_named, block_named}
 use Rattle.rg_numbered.specs.Numbered.{numbered, numbered_right, numbered_assign, numbered_swap, numbered_enter, giving_slot, numbered_kind, numbered_else}
 use Rattle.rg_numbered.specs.Numbered.{numbered_block}
-use Rattle.rg_renamed.specs.Renamed.{renamed_classes, renamed_params, renamed_method, renamed_field, renamed_from, renamed_members, renamed_class, renamed}
-use Rattle.rg_renamed.specs.Renamed.{renamed_block}
+use Rattle.rg_renamed.specs.Renamed.{renamed_classes, renamed_method, renamed_field, renamed_from, renamed_members, renamed_class, renamed}
 use Rattle.rg_renamed.proofs.Names.{from-long}
 use Rattle.rg_renamed.proofs.Numbered.{params-long}
 use Rattle.rg_renamed.proofs.Classes.{classes-long, member-fields, member-methods}
