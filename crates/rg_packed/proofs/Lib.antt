@@ -8,3 +8,4 @@ mod Spelt
 mod Plain
 mod Runs
 mod Whole
+mod Examples

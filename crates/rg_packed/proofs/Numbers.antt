@@ -301,9 +301,11 @@ module _ (cs : List Class) (most : ℕ) (few : AreBounded cs most) where
     else-aside : (sc : Scope) (at line : ℕ) (other : Else) → line ≤ most → HoldsBehind HasOwnSmall other → IsLinedElse most other →
         AreAside (else_code cs sc at line other)
     else-aside sc at line no_else l h g = tt
-    else-aside sc at line (otherwise b) l h g =
-        ((tt, tt), aside-then (block_code cs sc (at + 1) b) (i.Mark line ∷ i.End (length sc) ∷ []) (block-aside sc (at + 1) b h g)
-        (mark-aside line l, ((tt, tt), tt)))
+    else-aside sc at line (otherwise b) l h g = (
+      (tt, tt),
+      aside-then (block_code cs sc (at + 1) b) (i.Mark line ∷ i.End (length sc) ∷ []) (block-aside sc (at + 1) b h g)
+          (mark-aside line l, ((tt, tt), tt)),
+    )
 
     pub block-aside : (sc : Scope) (at : ℕ) (b : Block) → HoldsInBlock HasOwnSmall b → IsLinedBlock most b → AreAside (block_code cs sc at b)
     block-aside sc at none h g = tt
