@@ -1,3 +1,5 @@
--- The lemmas that the answers of rg_when use; none is for crates above.
-mod Scheduled
+-- The lemmas that the answers of rg_when use; Input is for crates above.
+pub mod Input
+mod Told
+mod Settled
 mod Examples
