@@ -1,14 +1,9 @@
 -- Short plans and schedules, computed: what `when` answers to them.
 use Rattle.std.specs.Fmt.{digits}
-use Rattle.std.proofs.Common.{◌≡◌, refl, ℕ, pos, List, [], ◌∷◌, ◌++◌, false, None, Ok, Err, codes}
+use Rattle.std.proofs.Common.{◌≡◌, refl, List, [], ◌∷◌, Ok, Err, codes}
 use Prim.Native.String.{String}
 use Rattle.rg_base.specs.declared.fault.Code.TheVariants.{Plan, Schedule}
-use Rattle.rg_base.specs.declared.words.Cap.TheVariants as cap
-use Rattle.rg_base.specs.declared.words.Manager.TheVariants as manager
-use Rattle.rg_tree.specs.declared.rows.BinOp.TheVariants as op
-use Rattle.rg_tree.specs.Tree.{int, number, path, binary, value, assign, enter, print, Tree}
 use Rattle.rg_rules.specs.Runs.{plain_from}
-use Rattle.rg_rules.proofs.Sources.{self_dot, dot, to, block, field_named, method_named, class_named, program}
 use Rattle.rg_cown.specs.Contents.{read_on}
 use Rattle.rg_plan.specs.Plans.{Read, PlanOf}
 use Rattle.rg_plan.specs.Rules.{plan_of}
@@ -16,6 +11,7 @@ use Rattle.rg_schedule.specs.Schedules.{Whole, BadAt, TooLong, schedule_of, sche
 use Rattle.rg_words.specs.declared.status.Status.TheVariants as status
 use Rattle.rg_words.specs.Answers.{Answer, refused}
 use Rattle.rg_when.specs.Scheduled.{schedule_answer}
+use Rattle.rg_when.proofs.Counter.{counted, lines, two}
 
 -- What inputs say as schedules
 
@@ -51,24 +47,6 @@ no_number_behind_two = refl
 
 -- What `when` answers
 
--- class N { v: int; }
--- class A { n: iso N; def mut add() { enter self.n as z { z.v = z.v + 1; print z.v; } } }
--- main arena { }
-abbrev counted : Tree
-counted =
-    program (class_named "N" false (field_named "v" int ∷ [])
-    ∷ class_named "A" false (field_named "n" (to cap.Iso "N")
-    ∷ method_named cap.Mut "add" [] None
-    (enter (self_dot "n") (codes "z")
-    (block (assign (dot "z" "v") (value (binary op.Add (path (dot "z" "v")) (number (pos 1)))) ∷ print (path (dot "z" "v")) ∷ [])) None ∷ [])
-    ∷ [])
-    ∷ []) manager.Arena []
-
--- lines, each with its end
-abbrev lines : List String → List ℕ
-lines [] = []
-lines (s ∷ ss) = codes s ++ 10 ∷ lines ss
-
 abbrev by_plan : Read PlanOf → (input : String) → Answer
 by_plan (Ok p) input = schedule_answer counted p (codes input)
 by_plan (Err line) input = refused (record { code = Plan; line = line })
@@ -80,9 +58,6 @@ to_plan ss input = by_plan (plan_of counted (lines ss)) input
 -- the text of these lines
 abbrev told : List String → Answer
 told ss = record { status = status.Done; text = lines ss }
-
-abbrev two : List String
-two = "cown N arena" ∷ "when A.add 0" ∷ "when A.add 0" ∷ []
 
 both_done : to_plan two "0 1 0 0 0 0 0 0 1 1 1 1 1 1 1" ≡ told ("behaviour 0 A.add done" ∷ "1" ∷ "behaviour 1 A.add done" ∷ "2" ∷ [])
 unfolding digits plain_from read_on schedule_from
