@@ -1,0 +1,3 @@
+-- The definitions that the clauses of rg_when name (docs/promises.md, "The headline").
+pub mod Scheduled
+pub mod Inner
