@@ -1,11 +1,7 @@
--- Lemmas on worlds over machines.
-mod Empty
+-- Lemmas on worlds over machines: Events is for callers, too.
+pub mod Events
 mod Lists
-mod Events
+mod Fronts
 mod Shown
 mod Behind
-mod Stepped
-mod Returned
-mod Opened
-mod Members
 mod First

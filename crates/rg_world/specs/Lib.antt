@@ -1,4 +1,3 @@
 -- The definitions that the clauses of rg_world name (docs/architecture.md, "Worlds").
-pub mod Standing
 pub mod Worlds
 pub mod Inner

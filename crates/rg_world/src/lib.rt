@@ -5,12 +5,6 @@
 //! of it.
 #![tactic(auto)]
 
-mod advance;
-mod back;
-mod begun;
-mod no_input;
-mod progress;
 mod world;
 
-pub use progress::{Progress, Standing};
 pub use world::World;

@@ -1,0 +1,23 @@
+use Rattle.std.proofs.Common.{sym, ◌∙◌, subst, arith}
+use Rattle.rg_tree.specs.Rows.RowTrees.{program_of}
+use Rattle.rg_rules.specs.Types.{fields_of}
+use Rattle.rg_sched.specs.Events.{one_more}
+use Rattle.rg_progress.specs.Inner.Steps.{CameTo}
+use Rattle.rg_progress.proofs.advance.advance.Goals as goal
+
+pub step_on-requires-clause-runs : goal.step_on-requires-clause-runs
+step_on-requires-clause-runs g c = c.requires.runs
+
+pub returns-in-On : goal.returns-in-On
+returns-in-On g c = λ r n is on first next.
+    let t = program_of c.args.book.now.program in
+    let came = subst (λ z. CameTo t c.args.code.now r.state.output (fields_of t.classes c.args.class) (one_more t.classes r) c.step_on.new.standing z) c.in-On.is
+    (c.in_ok-stepped.ensures r is.standing on first next) in
+    (came.1, record { standing = came.0; printed = is.printed ∙ sym came.2; turns_are = omega (arith, is.turns_are) })
+
+pub returns-in-Ended : goal.returns-in-Ended
+returns-in-Ended g c = λ r n is on first next.
+    let t = program_of c.args.book.now.program in
+    let came = subst (λ z. CameTo t c.args.code.now r.state.output (fields_of t.classes c.args.class) (one_more t.classes r) c.step_on.new.standing z) c.in-Ended.is
+    (c.in_ok-stepped.ensures r is.standing on first next) in
+    (came.1, record { standing = came.0; printed = is.printed ∙ sym came.2; turns_are = omega (arith, is.turns_are) })
