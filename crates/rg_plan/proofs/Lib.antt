@@ -4,5 +4,6 @@ mod Digits
 mod Visible
 mod NameSteps
 mod OwnedSteps
+mod InFront
 mod GoodPlans
 mod Examples

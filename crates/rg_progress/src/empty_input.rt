@@ -1,6 +1,6 @@
 //! The input of behaviours, which is empty (docs/architecture.md, "Worlds").
 
-ghost use Rattle.std.specs.Prelude.{ℕ};
+ghost use Rattle.std.specs.Prelude.{◌≡◌, ℕ, [], false};
 ghost use Rattle.rg_tree.specs.Tree.{Tree};
 ghost use Rattle.rg_rules.specs.Runs.{Ran};
 ghost use Rattle.rg_sched.specs.Events.{one_more};
@@ -52,7 +52,9 @@ impl Model for EmptyInput {
 
 impl EmptyInput {
     /// Nothing was asked of it.
-    pub fn new() -> EmptyInput {
+    pub fn new() -> EmptyInput
+        ensures { result ≡ record { held = []; ended = false } }
+    {
         EmptyInput {
             numbers: Numbers::new(),
         }
