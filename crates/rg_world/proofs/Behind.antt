@@ -24,13 +24,12 @@ use Rattle.rg_sched.specs.Events.{may_begin, one_more, steps_on, event, first_wo
 use Rattle.rg_sched.specs.Laws.{PlansAreSettings, FrontsAreEnough, AllSeparate}
 use Rattle.rg_slots.specs.declared.slot.Slot.{Slot}
 use Rattle.rg_step.specs.Stepping.{Stepping}
-use Rattle.rg_progress.specs.declared.progress.Progress.{Progress}
-use Rattle.rg_progress.specs.declared.progress.Standing.{Standing}
-use Rattle.rg_progress.specs.declared.progress.Standing.TheVariants as stands
-use Rattle.rg_progress.specs.Standing.{RunsAs, StandsAs, IsProgress}
+use Rattle.rg_world.specs.declared.progress.Progress.{Progress}
+use Rattle.rg_world.specs.declared.progress.Standing.{Standing}
+use Rattle.rg_world.specs.declared.progress.Standing.TheVariants as stands
+use Rattle.rg_world.specs.Standing.{RunsAs, StandsAs, IsProgress}
 use Rattle.rg_world.specs.Worlds.{WorldIn, Shows, IsBehind}
-use Rattle.rg_progress.specs.Leaving.{Leaves}
-use Rattle.rg_world.specs.Inner.Steps.{all_ended_in, is_ended, runs_so, contents_with}
+use Rattle.rg_world.specs.Inner.Steps.{all_ended_in, is_ended, runs_so, contents_with, Leaves}
 use Rattle.rg_world.proofs.Events.{after-push, waits, goes, done-stays, stopped-stays, contents-length, runs-length, start-length, put-away}
 use Rattle.rg_world.proofs.Shown.{told-again, runs-as, all-ended-same}
 

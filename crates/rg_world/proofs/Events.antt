@@ -106,6 +106,11 @@ put-away (n ∷ ns) cs h =
     let same = set-away cs n (h n (inl refl)) in
     ap (put ns (map (λ n. Away) ns)) same ∙ put-away ns cs (λ k a l. h k (inr a) l)
 
+-- nothing that is put leaves all of them empty
+pub put-none : (ns : List ℕ) (cs : List Content) → put ns [] cs ≡ put ns (map (λ n. Empty) ns) cs
+put-none [] cs = refl
+put-none (n ∷ ns) cs = put-none ns (set cs n Empty)
+
 -- the behaviours that there are stay
 
 event-runs : (classes : List Class) (bs : List Behaviour) (i : ℕ) (w : World) → length (event classes bs i w).told.runs ≡ length w.told.runs

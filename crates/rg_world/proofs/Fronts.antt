@@ -5,7 +5,7 @@ use Rattle.std.specs.List.{list_all}
 use Rattle.std.proofs.lemmas.List.{drop_more}
 use Rattle.rg_queues.proofs.LastOnes.{front-below}
 use Rattle.rg_plan.specs.Plans.{Turn as Behaviour, all_cowns, in_front_of}
-use Rattle.rg_progress.specs.declared.progress.Progress.{Progress}
+use Rattle.rg_world.specs.declared.progress.Progress.{Progress}
 use Rattle.rg_world.specs.Inner.Steps.{is_ended, ended_in, all_ended_in}
 
 length-take : {X : Type 0} → (xs : List X) (i : ℕ) → length (take i xs) ≤ i

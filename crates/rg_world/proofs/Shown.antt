@@ -15,10 +15,11 @@ use Rattle.rg_sched.specs.declared.phase.Phase.{Phase}
 use Rattle.rg_sched.specs.declared.phase.Phase.TheVariants as phase
 use Rattle.rg_sched.specs.Atomic.{tell, World}
 use Rattle.rg_sched.specs.Laws.{all_ended}
-use Rattle.rg_progress.specs.declared.progress.Progress.{Progress}
-use Rattle.rg_progress.specs.declared.progress.Standing.{Standing}
-use Rattle.rg_progress.specs.declared.progress.Standing.TheVariants as stands
-use Rattle.rg_progress.specs.Standing.{StandsAs, IsProgress, phase_in}
+use Rattle.rg_world.specs.declared.progress.Progress.{Progress}
+use Rattle.rg_world.specs.declared.progress.Standing.{Standing}
+use Rattle.rg_world.specs.declared.progress.Standing.TheVariants as stands
+use Rattle.rg_step.specs.Stepping.{Stepping}
+use Rattle.rg_world.specs.Standing.{RunsAs, StandsAs, IsProgress, phase_in}
 use Rattle.rg_world.specs.Worlds.{WorldIn, Shows}
 use Rattle.rg_world.specs.Inner.Steps.{is_ended, ended_in, all_ended_in, waits_so, is_waiting, runs_so, is_running}
 use Rattle.rg_world.proofs.Lists.{get-same, get-other, same_or_not, all-alike}
@@ -155,3 +156,9 @@ phase-ends (Some q) ph e end = (q, refl, by q.standing (subst IsEnd (sym (some_i
     by (stands.Running s) end = absurd end
     by stands.Done end = refl
     by (stands.Trap kind line) end = refl
+
+-- the run of one that is running on a machine
+pub runs-of : (t : Tree) (code : Code) (r : Ran) (s : Standing) (p : Stepping) → StandsAs t code (Some r) s → s ≡ stands.Running p → RunsAs t code r p
+runs-of t code r s p h is =
+    let there = subst (λ z. StandsAs t code (Some r) z) is h in
+    subst (λ z. RunsAs t code z p) (sym (some_is r there.0 there.1)) there.2

@@ -1,3 +1,4 @@
 -- The definitions that the clauses of rg_world name (docs/architecture.md, "Worlds").
+pub mod Standing
 pub mod Worlds
 pub mod Inner

@@ -12,8 +12,8 @@ use Rattle.rg_sched.specs.Settings.{setting_of}
 use Rattle.rg_sched.specs.Atomic.{World}
 use Rattle.rg_sched.specs.Events.{world_after}
 use Rattle.rg_contents.specs.Rest.{ImagesMayBeOwned}
-use Rattle.rg_progress.specs.declared.progress.Progress.{Progress}
-use Rattle.rg_progress.specs.Standing.{IsProgress}
+use Rattle.rg_world.specs.declared.progress.Progress.{Progress}
+use Rattle.rg_world.specs.Standing.{IsProgress}
 
 -- what is held of each behaviour, what each cown has, and which behaviours began, in order
 pub record WorldIn : Type 0 where

@@ -5,6 +5,12 @@
 //! of it.
 #![tactic(auto)]
 
+mod advance;
+mod back;
+mod begun;
+mod empty_input;
+mod progress;
 mod world;
 
+pub use progress::{Progress, Standing};
 pub use world::World;

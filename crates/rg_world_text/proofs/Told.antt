@@ -12,10 +12,10 @@ use Rattle.rg_sched.specs.declared.phase.Phase.{Phase}
 use Rattle.rg_sched.specs.Phases.{phase_by, phase_of, printed_by}
 use Rattle.rg_sched.specs.Settings.{setting_of}
 use Rattle.rg_sched.specs.Atomic.{World}
-use Rattle.rg_progress.specs.declared.progress.Progress.{Progress}
-use Rattle.rg_progress.specs.declared.progress.Standing.{Standing}
-use Rattle.rg_progress.specs.declared.progress.Standing.TheVariants as stands
-use Rattle.rg_progress.specs.Standing.{StandsAs, phase_in}
+use Rattle.rg_world.specs.declared.progress.Progress.{Progress}
+use Rattle.rg_world.specs.declared.progress.Standing.{Standing}
+use Rattle.rg_world.specs.declared.progress.Standing.TheVariants as stands
+use Rattle.rg_world.specs.Standing.{StandsAs, phase_in}
 use Rattle.rg_world.specs.Worlds.{WorldIn, Shows, IsBehind}
 use Rattle.rg_world.proofs.Events.{runs-length}
 use Rattle.rg_world_text.specs.Text.{behaviour_text, text_from}

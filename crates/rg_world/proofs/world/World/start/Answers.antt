@@ -7,13 +7,13 @@ use Rattle.rg_sched.specs.Contents.{contents_at, givens}
 use Rattle.rg_world.specs.Worlds.{WorldIn, IsBehind}
 use Rattle.std.proofs.lemmas.Option.{get_or_from_slice_get}
 use Rattle.rg_sched.specs.Behaviours.{run_of}
-use Rattle.rg_progress.specs.declared.progress.Progress.{Progress}
-use Rattle.rg_progress.specs.declared.progress.Standing.TheVariants as stands
-use Rattle.rg_progress.specs.Standing.{RunsAs}
+use Rattle.rg_world.specs.declared.progress.Progress.{Progress}
+use Rattle.rg_world.specs.declared.progress.Standing.TheVariants as stands
+use Rattle.rg_world.specs.Standing.{RunsAs}
 use Rattle.rg_plan.specs.Plans.{in_front_of}
 use Rattle.rg_world.specs.Inner.Steps.{all_ended_in, is_waiting}
 use Rattle.rg_world.proofs.First.{many-behind, there-is}
-use Rattle.rg_progress.proofs.Opened.{silent}
+use Rattle.rg_world.proofs.Opened.{silent}
 use Rattle.rg_world.proofs.Shown.{waiting-is}
 use Rattle.rg_world.proofs.Behind.{class-below, cowns-below, own-cowns, progress-below, ready-now, waits-on, begun-now}
 use Rattle.rg_world.proofs.world.World.start.Goals as goal

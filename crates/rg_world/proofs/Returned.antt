@@ -1,5 +1,5 @@
 -- What a behaviour that is done gives back, field by field.
-use Rattle.std.proofs.Common.{◌≡◌, ℕ, zero, suc, ◌+◌, true, false, List, [], ◌∷◌, ◌++◌, map, drop, get_or, set, Option, Some, None, slice_get}
+use Rattle.std.proofs.Common.{◌≡◌, ℕ, zero, suc, ◌+◌, true, false, List, [], ◌∷◌, ◌++◌, map, drop, get_or, Option, Some, None, slice_get}
 use Rattle.std.proofs.Common.{append_assoc, refl, sym, ap, ◌∙◌, subst, arith}
 use Rattle.std.proofs.lemmas.List.{map-append}
 use Rattle.std.proofs.lemmas.Option.{get_or_from_slice_get}
@@ -17,10 +17,10 @@ use Rattle.rg_cown.specs.Cargo.{CargoList}
 use Rattle.rg_cown.specs.Contents.{no_object}
 use Rattle.rg_content.specs.Fields.{IsContent, IsOwnField}
 use Rattle.rg_first.specs.First.{IsOfBehaviour}
-use Rattle.rg_sched.specs.Contents.{Content, Empty, Held, content_of, goes_back, iso_values, onto_if, put}
+use Rattle.rg_sched.specs.Contents.{Held, content_of, goes_back, iso_values, onto_if}
 use Rattle.rg_slots.specs.declared.slot.Slot.{Slot}
 use Rattle.rg_slots.specs.Slots.{content_in}
-use Rattle.rg_progress.specs.Inner.Steps.{slot_of}
+use Rattle.rg_world.specs.Inner.Steps.{slot_of}
 
 -- Fields and their values
 
@@ -146,8 +146,3 @@ pub back-end : (t : Tree) (class : ℕ) (s : State) (n : ℕ) (rest : List Field
     → map content_in back ≡ goes_back (fields_of t.classes class) s
 back-end t class s n rest back none h =
     sym (right-nil (map content_in back)) ∙ ap (λ z. map content_in back ++ map (content_of s) (iso_values z (drop n (values_of s)))) (sym none) ∙ h.is
-
--- nothing that is put leaves all of them empty
-pub put-none : (ns : List ℕ) (cs : List Content) → put ns [] cs ≡ put ns (map (λ n. Empty) ns) cs
-put-none [] cs = refl
-put-none (n ∷ ns) cs = put-none ns (set cs n Empty)

@@ -9,7 +9,7 @@ ghost use Rattle.rg_contents.specs.Rest.{IsReady};
 ghost use Rattle.rg_sched.specs.Behaviours.{run_of};
 ghost use Rattle.rg_sched.specs.Contents.{Away, contents_at, givens, put};
 ghost use Rattle.rg_sched.specs.Numbers.{Distinct};
-ghost use Rattle.rg_progress.specs.Standing.{RunsAs};
+ghost use Rattle.rg_world.specs.Standing.{RunsAs};
 
 use rg_base::Memory;
 use rg_code::CodeList;
@@ -20,7 +20,7 @@ use rg_step::Stepper;
 use std::alloc::Global;
 
 /// The machine of a behaviour that begins, which takes what its cowns have.
-pub fn begun(
+pub(crate) fn begun(
     alloc: Global,
     book: &Book<'_>,
     code: &CodeList,

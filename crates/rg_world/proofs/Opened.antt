@@ -19,7 +19,7 @@ use Rattle.rg_sched.specs.Behaviours.{all_methods, idle, run_of}
 use Rattle.rg_sched.specs.Contents.{Content, givens}
 use Rattle.rg_step.specs.Begins.{Begins}
 use Rattle.rg_step.specs.Stepping.{Stepping}
-use Rattle.rg_progress.specs.Standing.{RunsAs}
+use Rattle.rg_world.specs.Standing.{RunsAs}
 
 -- the run of a behaviour that begins with a method
 abbrev Opened : Behaviour → Method → List Given → Ran

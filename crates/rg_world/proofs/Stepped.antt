@@ -1,5 +1,5 @@
 -- What a step of the machine of a behaviour says of its run.
-use Rattle.std.proofs.Common.{◌≡◌, ℕ, ◌+◌, ◌⊎◌, inl, inr, Bool, true, false, List, [], ◌∷◌, ◌++◌, Option, Some, unwrap_or, refl, sym, ap, ◌∙◌, subst, arith}
+use Rattle.std.proofs.Common.{◌≡◌, ℕ, ◌+◌, ◌⊎◌, inl, inr, Bool, true, false, List, [], ◌∷◌, ◌++◌, Some, refl, sym, ap, ◌∙◌, subst, arith}
 use Rattle.rg_base.specs.declared.outcome.Outcome.{Outcome}
 use Rattle.rg_base.specs.declared.outcome.Outcome.TheVariants as outcome
 use Rattle.rg_base.specs.declared.outcome.Trap.{Trap}
@@ -28,11 +28,9 @@ use Rattle.rg_step.specs.States.{OneStep, Standing}
 use Rattle.rg_step.specs.Stepping.{Stepping}
 use Rattle.rg_step.specs.Steps.{Settles, UnlessAsking}
 use Rattle.rg_lasting.specs.Lasting.{FirstLasts}
-use Rattle.rg_progress.specs.declared.progress.Standing.{Standing as Stands}
-use Rattle.rg_progress.specs.declared.progress.Standing.TheVariants as stands
-use Rattle.rg_progress.specs.Standing.{RunsAs, StandsAs}
-use Rattle.rg_progress.specs.Inner.Steps.{EndsAs, Tells}
-use Rattle.rg_progress.proofs.Empty.{asking-input}
+use Rattle.rg_world.specs.Standing.{RunsAs}
+use Rattle.rg_world.specs.Inner.Steps.{EndsAs, Tells}
+use Rattle.rg_world.proofs.Empty.{asking-input}
 
 first-is : (items : List Item) → SomeLeft items → (first : Item) × (rest : List Item) × (items ≡ first ∷ rest)
 first-is [] some = absurd some
@@ -122,15 +120,6 @@ tells t code r old new h q outcome.Done sound holds shows input fault s =
 tells t code r old new h q (outcome.Trap kind line) sound holds shows input fault s = trapped t code r old new h q kind line s.0
 tells t code r old new h q outcome.InputFault sound holds shows input fault s = absurd (fault refl)
 tells t code r old new h q outcome.Memory sound holds shows input fault s = tt
-
-same-run : (a b : Ran) → Some a ≡ Some b → a ≡ b
-same-run a b e = ap (λ (o : Option Ran). unwrap_or o a) e
-
--- the run of one that is running on a machine
-pub runs-of : (t : Tree) (code : Code) (r : Ran) (s : Stands) (p : Stepping) → StandsAs t code (Some r) s → s ≡ stands.Running p → RunsAs t code r p
-runs-of t code r s p h is =
-    let there = subst (λ z. StandsAs t code (Some r) z) is h in
-    subst (λ z. RunsAs t code z p) (sym (same-run r there.0 there.1)) there.2
 
 -- the input of a step: nothing is left of a source without bytes
 

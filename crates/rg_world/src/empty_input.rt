@@ -5,8 +5,8 @@ ghost use Rattle.rg_tree.specs.Tree.{Tree};
 ghost use Rattle.rg_rules.specs.Runs.{Ran};
 ghost use Rattle.rg_sched.specs.Events.{one_more};
 ghost use Rattle.rg_first.specs.First.{IsFirst};
-ghost use Rattle.rg_progress.specs.Standing.{RunsAs};
-ghost use Rattle.rg_progress.specs.Inner.Steps.{Tells};
+ghost use Rattle.rg_world.specs.Standing.{RunsAs};
+ghost use Rattle.rg_world.specs.Inner.Steps.{Tells};
 
 use rg_base::Outcome;
 use rg_code::CodeList;
@@ -35,7 +35,7 @@ impl Source for NoBytes {
 
 /// The input of behaviours. One serves all of them, since no step leaves anything in it.
 #[derive(Drop)]
-pub struct EmptyInput {
+pub(crate) struct EmptyInput {
     numbers: Numbers,
 }
 
@@ -52,7 +52,7 @@ impl Model for EmptyInput {
 
 impl EmptyInput {
     /// Nothing was asked of it.
-    pub fn new() -> EmptyInput
+    pub(crate) fn new() -> EmptyInput
         ensures { result ≡ record { held = []; ended = false } }
     {
         EmptyInput {

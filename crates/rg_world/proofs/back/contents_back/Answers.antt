@@ -1,10 +1,10 @@
 use Rattle.std.proofs.Common.{◌∙◌, ◌+◌, ap, sym, subst, map, drop, filter_map}
 use Rattle.rg_tree.specs.Rows.RowTrees.{member_at, program_of}
 use Rattle.rg_rules.specs.Types.{fields_of, field_member}
-use Rattle.rg_progress.proofs.Members.{members-field, members-method, members-end}
-use Rattle.rg_progress.proofs.Returned.{GoesBack, own-field, back-iso, back-other, back-end, next-place}
-use Rattle.rg_progress.proofs.back.contents_back.Goals.{in-Field+else-field, then-is_iso+in_ok-content-in-Field+in-Ok, else-is_iso, in-Method}
-use Rattle.rg_progress.proofs.back.contents_back.Goals as goal
+use Rattle.rg_world.proofs.Members.{members-field, members-method, members-end}
+use Rattle.rg_world.proofs.Returned.{GoesBack, own-field, back-iso, back-other, back-end, next-place}
+use Rattle.rg_world.proofs.back.contents_back.Goals.{in-Field+else-field, then-is_iso+in_ok-content-in-Field+in-Ok, else-is_iso, in-Method}
+use Rattle.rg_world.proofs.back.contents_back.Goals as goal
 
 pub content-requires-clause-owns : goal.content-requires-clause-owns
 content-requires-clause-owns c =

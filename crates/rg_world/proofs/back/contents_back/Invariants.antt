@@ -6,8 +6,8 @@ use Rattle.rg_code.specs.Code.{Code}
 use Rattle.rg_held.specs.Shown.{ShowsHeld}
 use Rattle.rg_machine.specs.Parts.{machine_in}
 use Rattle.rg_first.specs.First.{IsOfBehaviour}
-use Rattle.rg_progress.proofs.Returned.{GoesBack}
-use Rattle.rg_progress.proofs.back.contents_back.Given as goal
+use Rattle.rg_world.proofs.Returned.{GoesBack}
+use Rattle.rg_world.proofs.back.contents_back.Given as goal
 
 abbrev pub invariant-loop-k : goal.invariant-loop-k
 invariant-loop-k l = let t = program_of l.book.program in record {

@@ -6,9 +6,8 @@ ghost use Rattle.rg_rules.specs.Types.{fields_of};
 ghost use Rattle.rg_rules.specs.Runs.{Ran, Running as going};
 ghost use Rattle.rg_sched.specs.Events.{one_more};
 ghost use Rattle.rg_first.specs.First.{IsFirst, IsOfBehaviour};
-ghost use Rattle.rg_progress.specs.Standing.{StandsAs, IsProgress};
-ghost use Rattle.rg_progress.specs.Leaving.{Leaves};
-ghost use Rattle.rg_progress.specs.Inner.Steps.{CameTo};
+ghost use Rattle.rg_world.specs.Standing.{StandsAs, IsProgress};
+ghost use Rattle.rg_world.specs.Inner.Steps.{CameTo, Leaves};
 
 use crate::back::contents_back;
 use crate::empty_input::EmptyInput;
@@ -74,7 +73,7 @@ fn step_on(
 
 /// Makes a step of a running behaviour of a class. Answers what it leaves to its cowns, in order,
 /// if it has ended; behind a trap that is nothing.
-pub fn advance(
+pub(crate) fn advance(
     progress: &mut Progress,
     alloc: Global,
     book: &Book<'_>,

@@ -2,8 +2,8 @@ use Rattle.std.proofs.Common.{sym, ◌∙◌, subst, arith}
 use Rattle.rg_tree.specs.Rows.RowTrees.{program_of}
 use Rattle.rg_rules.specs.Types.{fields_of}
 use Rattle.rg_sched.specs.Events.{one_more}
-use Rattle.rg_progress.specs.Inner.Steps.{CameTo}
-use Rattle.rg_progress.proofs.advance.advance.Goals as goal
+use Rattle.rg_world.specs.Inner.Steps.{CameTo}
+use Rattle.rg_world.proofs.advance.advance.Goals as goal
 
 pub step_on-requires-clause-runs : goal.step_on-requires-clause-runs
 step_on-requires-clause-runs g c = c.requires.runs

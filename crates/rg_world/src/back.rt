@@ -11,7 +11,7 @@ ghost use Rattle.rg_first.specs.First.{IsOfBehaviour};
 ghost use Rattle.rg_sched.specs.Contents.{goes_back};
 ghost use Rattle.rg_slots.specs.Slots.{content_in};
 ghost use Rattle.rg_step.specs.Behaviours.{HoldsFirst};
-ghost use Rattle.rg_progress.specs.Inner.Steps.{slot_of};
+ghost use Rattle.rg_world.specs.Inner.Steps.{slot_of};
 
 use rg_base::Memory;
 use rg_cown::Cargo;

@@ -4,9 +4,9 @@ use Rattle.rg_rules.specs.Types.{fields_of}
 use Rattle.rg_sched.specs.Contents.{put, left_by}
 use Rattle.rg_sched.specs.Events.{one_more}
 use Rattle.rg_slots.specs.Slots.{content_in}
-use Rattle.rg_progress.proofs.Returned.{put-none}
-use Rattle.rg_progress.proofs.Stepped.{runs-of}
-use Rattle.rg_progress.proofs.advance.step_on.Goals as goal
+use Rattle.rg_world.proofs.Events.{put-none}
+use Rattle.rg_world.proofs.Shown.{runs-of}
+use Rattle.rg_world.proofs.advance.step_on.Goals as goal
 
 pub step-outcome-requires : goal.step-outcome-requires
 step-outcome-requires g c =

@@ -3,9 +3,9 @@ use Rattle.rg_tree.specs.Rows.RowTrees.{classes_of, program_of}
 use Rattle.rg_rules.specs.Types.{fields_of}
 use Rattle.rg_sched.specs.Contents.{contents_at, givens}
 use Rattle.rg_slots.specs.Slots.{content_in}
-use Rattle.rg_progress.proofs.Opened.{begins-as, begins-same, may-start}
-use Rattle.rg_progress.proofs.begun.begun.Goals as goal
-use Rattle.rg_progress.proofs.begun.begun.Goals.{After-as_slice}
+use Rattle.rg_world.proofs.Opened.{begins-as, begins-same, may-start}
+use Rattle.rg_world.proofs.begun.begun.Goals as goal
+use Rattle.rg_world.proofs.begun.begun.Goals.{After-as_slice}
 
 -- with what the fields begin
 given-are : (c : After-as_slice) → c.as_slice.result.now

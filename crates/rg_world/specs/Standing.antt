@@ -12,9 +12,9 @@ use Rattle.rg_step.specs.Behaviours.{HoldsFirst}
 use Rattle.rg_step.specs.Sound.{IsSound}
 use Rattle.rg_step.specs.Steps.{Runs}
 use Rattle.rg_step.specs.Stepping.{Stepping}
-use Rattle.rg_progress.specs.declared.progress.Progress.{Progress}
-use Rattle.rg_progress.specs.declared.progress.Standing.{Standing}
-use Rattle.rg_progress.specs.declared.progress.Standing.TheVariants as stands
+use Rattle.rg_world.specs.declared.progress.Progress.{Progress}
+use Rattle.rg_world.specs.declared.progress.Standing.{Standing}
+use Rattle.rg_world.specs.declared.progress.Standing.TheVariants as stands
 
 -- The machine of a behaviour runs the program from the state that its run has come to: it shows that state, as far as it is held, and holds the
 -- behaviour's object. There is no input, and the last thing to do is the end of main.

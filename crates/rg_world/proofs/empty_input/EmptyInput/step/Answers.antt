@@ -1,5 +1,5 @@
-use Rattle.rg_progress.proofs.Stepped.{step-tells, still-empty}
-use Rattle.rg_progress.proofs.empty_input.EmptyInput.step.Goals as goal
+use Rattle.rg_world.proofs.Stepped.{step-tells, still-empty}
+use Rattle.rg_world.proofs.empty_input.EmptyInput.step.Goals as goal
 
 pub invariant_of-self : goal.invariant_of-self
 invariant_of-self g c =
