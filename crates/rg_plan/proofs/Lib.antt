@@ -4,6 +4,5 @@ mod Digits
 mod Visible
 mod NameSteps
 mod OwnedSteps
-mod InFront
 mod GoodPlans
 mod Examples

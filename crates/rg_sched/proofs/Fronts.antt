@@ -41,24 +41,21 @@ true-or-false false = inr refl
 all-found : (f : ℕ → Option ℕ) (test : ℕ → Bool) (ns : List ℕ) → ((n k : ℕ) → among ns n ≡ true → f n ≡ Some k → test k ≡ true)
     → list_all test (filter_map f ns) ≡ true
 all-found f test [] h = refl
-all-found f test (m ∷ ns) h = by (f m) refl
+all-found f test (m ∷ ns) h = by (f m) refl (all-found f test ns (λ n k e at. h n k (or-right (m == n) (among ns n) e) at))
   where
     same : (m == m) ≡ true
     same = grind (arith, nat_tests)
 
-    rest : list_all test (filter_map f ns) ≡ true
-    rest = all-found f test ns (λ n k e at. h n k (or-right (m == n) (among ns n) e) at)
-
-    by : (o : Option ℕ) → f m ≡ o → list_all test (cons_option o (filter_map f ns)) ≡ true
-    by None e = rest
-    by (Some k) e =
+    by : (o : Option ℕ) → f m ≡ o → list_all test (filter_map f ns) ≡ true → list_all test (cons_option o (filter_map f ns)) ≡ true
+    by None e rest = rest
+    by (Some k) e rest =
         let here : among (m ∷ ns) m ≡ true = ap (λ z. z || among ns m) same in
         ap (λ z. z && list_all test (filter_map f ns)) (h m k here e) ∙ rest
 
 found-all : (f : ℕ → Option ℕ) (test : ℕ → Bool) (ns : List ℕ) → list_all test (filter_map f ns) ≡ true → (n k : ℕ) → among ns n ≡ true
     → f n ≡ Some k → test k ≡ true
 found-all f test [] h n k e at = absurd (cc)
-found-all f test (m ∷ ns) h n k e at = by (f m) refl h
+found-all f test (m ∷ ns) h n k e at = by (f m) refl h (λ all q. found-all f test ns all n k q at)
   where
     here : (m == n) ≡ true → m ≡ n
     here q = grind (arith, nat_tests)
@@ -67,43 +64,46 @@ found-all f test (m ∷ ns) h n k e at = by (f m) refl h
     split true b q = inl refl
     split false b q = inr q
 
-    by : (o : Option ℕ) → f m ≡ o → list_all test (cons_option o (filter_map f ns)) ≡ true → test k ≡ true
-    by None is all = or (split (m == n) (among ns n) e)
+    by : (o : Option ℕ) → f m ≡ o → list_all test (cons_option o (filter_map f ns)) ≡ true
+        → (list_all test (filter_map f ns) ≡ true → among ns n ≡ true → test k ≡ true) → test k ≡ true
+    by None is all later = or (split (m == n) (among ns n) e)
       where
         or : ((m == n) ≡ true) ⊎ (among ns n ≡ true) → test k ≡ true
         or (inl q) = absurd (let p : None ≡ Some k = sym is ∙ ap f (here q) ∙ at in cc)
-        or (inr q) = found-all f test ns all n k q at
-    by (Some j) is all = or (split (m == n) (among ns n) e)
+        or (inr q) = later all q
+    by (Some j) is all later = or (split (m == n) (among ns n) e)
       where
         or : ((m == n) ≡ true) ⊎ (among ns n ≡ true) → test k ≡ true
         or (inl q) = subst (λ z. test z ≡ true) (some_is j k (sym is ∙ ap f (here q) ∙ at)) (and-true (test j) (list_all test (filter_map f ns)) all).0
-        or (inr q) = found-all f test ns (and-true (test j) (list_all test (filter_map f ns)) all).1 n k q at
+        or (inr q) = later (and-true (test j) (list_all test (filter_map f ns)) all).1 q
 
 -- Behaviours that share a cown
 
 any-shared : (ms ns : List ℕ) → list_any (among ms) ns ≡ true → (n : ℕ) × (among ns n ≡ true) × (among ms n ≡ true)
 any-shared ms [] e = absurd (cc)
-any-shared ms (m ∷ ns) e = by (true-or-false (among ms m))
+any-shared ms (m ∷ ns) e = by (true-or-false (among ms m)) (λ f. any-shared ms ns f)
   where
     same : (m == m) ≡ true
     same = grind (arith, nat_tests)
 
-    by : (among ms m ≡ true) ⊎ (among ms m ≡ false) → (n : ℕ) × (among (m ∷ ns) n ≡ true) × (among ms n ≡ true)
-    by (inl q) = (m, ap (λ z. z || among ns m) same, q)
-    by (inr q) =
-        let r = any-shared ms ns (ap (λ z. z || list_any (among ms) ns) (sym q) ∙ e) in
+    by : (among ms m ≡ true) ⊎ (among ms m ≡ false) → (list_any (among ms) ns ≡ true → (n : ℕ) × (among ns n ≡ true) × (among ms n ≡ true))
+        → (n : ℕ) × (among (m ∷ ns) n ≡ true) × (among ms n ≡ true)
+    by (inl q) later = (m, ap (λ z. z || among ns m) same, q)
+    by (inr q) later =
+        let r = later (ap (λ z. z || list_any (among ms) ns) (sym q) ∙ e) in
         (r.0, or-right (m == r.0) (among ns r.0) r.1, r.2)
 
 shared-any : (ms ns : List ℕ) (n : ℕ) → among ns n ≡ true → among ms n ≡ true → list_any (among ms) ns ≡ true
 shared-any ms [] n e q = absurd (cc)
-shared-any ms (m ∷ ns) n e q = by (m == n) refl e
+shared-any ms (m ∷ ns) n e q = by (m == n) refl e (λ a. shared-any ms ns n a q)
   where
     here : (m == n) ≡ true → m ≡ n
     here p = grind (arith, nat_tests)
 
-    by : (b : Bool) → (m == n) ≡ b → (b || among ns n) ≡ true → (among ms m || list_any (among ms) ns) ≡ true
-    by true p a = ap (λ z. z || list_any (among ms) ns) (ap (among ms) (here p) ∙ q)
-    by false p a = or-right (among ms m) (list_any (among ms) ns) (shared-any ms ns n a q)
+    by : (b : Bool) → (m == n) ≡ b → (b || among ns n) ≡ true → (among ns n ≡ true → list_any (among ms) ns ≡ true)
+        → (among ms m || list_any (among ms) ns) ≡ true
+    by true p a later = ap (λ z. z || list_any (among ms) ns) (ap (among ms) (here p) ∙ q)
+    by false p a later = or-right (among ms m) (list_any (among ms) ns) (later a)
 
 -- two that are there share each cown that both name
 share-both : (bs : List Behaviour) (i k n : ℕ) (b d : Behaviour) → slice_get bs i ≡ Some b → slice_get bs k ≡ Some d
