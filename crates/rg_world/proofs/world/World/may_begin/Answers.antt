@@ -1,4 +1,4 @@
-use Rattle.std.proofs.Common.{sym, ◌∙◌, subst}
+use Rattle.std.proofs.Common.{◌∙◌}
 use Rattle.rg_world.proofs.First.{there-is}
 use Rattle.rg_world.proofs.Fronts.{front-there, ended-next, waits-next, ended-end, front-as}
 use Rattle.rg_world.proofs.world.World.may_begin.Goals as goal
