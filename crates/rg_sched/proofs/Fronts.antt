@@ -1,6 +1,6 @@
 -- Those that stand right in front of a behaviour in the queues of its cowns are enough to look at.
-use Rattle.std.proofs.Common.{◌≡◌, ◌≢◌, ℕ, zero, suc, ◌+◌, ◌<◌, ◌≤◌, ◌⊎◌, inl, inr, Bool, true, false, ◌||◌, ◌&&◌, ◌==◌, List, [], ◌∷◌, length, take, map}
-use Rattle.std.proofs.Common.{filter_map, get_or, Option, Some, None, unwrap_or, slice_get, refl, sym, ap, ◌∙◌, subst, arith}
+use Rattle.std.proofs.Common.{◌≡◌, ◌≢◌, ℕ, zero, suc, ◌+◌, ◌<◌, ◌≤◌, ◌⊎◌, inl, inr, Bool, true, false, ◌||◌, ◌&&◌, ◌==◌}
+use Rattle.std.proofs.Common.{List, [], ◌∷◌, length, take, map, filter_map, get_or, Option, Some, None, unwrap_or, slice_get, refl, sym, ap, ◌∙◌, subst, arith}
 use Rattle.std.specs.Prelude.{not}
 use Rattle.std.specs.List.{list_all, list_any, cons_option, range_with_len}
 use Rattle.std.proofs.lemmas.Bool.Decides.{nat_tests}
@@ -73,9 +73,12 @@ found-all f test (m ∷ ns) h n k e at = by (f m) refl h (λ all q. found-all f 
         or (inr q) = later all q
     by (Some j) is all later = or (split (m == n) (among ns n) e)
       where
+        both : (test j ≡ true) × (list_all test (filter_map f ns) ≡ true)
+        both = and-true (test j) (list_all test (filter_map f ns)) all
+
         or : ((m == n) ≡ true) ⊎ (among ns n ≡ true) → test k ≡ true
-        or (inl q) = subst (λ z. test z ≡ true) (some_is j k (sym is ∙ ap f (here q) ∙ at)) (and-true (test j) (list_all test (filter_map f ns)) all).0
-        or (inr q) = later (and-true (test j) (list_all test (filter_map f ns)) all).1 q
+        or (inl q) = subst (λ z. test z ≡ true) (some_is j k (sym is ∙ ap f (here q) ∙ at)) both.0
+        or (inr q) = later both.1 q
 
 -- Behaviours that share a cown
 
@@ -165,7 +168,8 @@ same-or-not (suc a) (suc b) = up (same-or-not a b)
     up (inl e) = inl (ap suc e)
     up (inr d) = inr (λ e. d (omega (arith, e)))
 
-module _ (classes : List Class) (s : Setting) (w : World) (i : ℕ) (b : Behaviour) (h : Stands classes s w) (there : slice_get s.behaviours i ≡ Some b) where
+module _ (classes : List Class) (s : Setting) (w : World) (i : ℕ) (b : Behaviour) (h : Stands classes s w)
+    (there : slice_get s.behaviours i ≡ Some b) where
   abbrev bs : List Behaviour
   bs = s.behaviours
 
@@ -219,7 +223,8 @@ module _ (classes : List Class) (s : Setting) (w : World) (i : ℕ) (b : Behavio
           ended = found-all (last_over before) over b.cowns all c.cown j c.mine e
 
           less : (k < j) ⊎ (j < k) → over k ≡ true
-          less (inl m) = h.world.ended j k (ended-begun classes s w j h ended) m (share-both bs j k c.cown f.other c.other f.at c.there f.names c.theirs)
+          less (inl m) =
+              h.world.ended j k (ended-begun classes s w j h ended) m (share-both bs j k c.cown f.other c.other f.at c.there f.names c.theirs)
           less (inr m) = absurd (not_two (among c.other.cowns c.cown) c.theirs (f.none k c.other.cowns m here))
 
           or : (k ≡ j) ⊎ (k ≢ j) → over k ≡ true

@@ -160,7 +160,8 @@ step-tells t code r class old new result before after lasts h is-first fresh fac
 same-input : (r q : State) → r.input ≡ [] → q ≡ r → q.input ≡ []
 same-input r q none same = ap (λ (z : State). z.input) same ∙ none
 
-none-asked : (t : Tree) (r q : State) (result : Outcome) → first_asks r.items ≡ true → r.input ≡ [] → Settles (next t.classes r) r q result → q.input ≡ []
+none-asked : (t : Tree) (r q : State) (result : Outcome) → first_asks r.items ≡ true → r.input ≡ [] → Settles (next t.classes r) r q result
+    → q.input ≡ []
 none-asked t r q outcome.Running asks none s = asking-input t.classes r q asks none s.0
 none-asked t r q (outcome.Printed v) asks none s = asking-input t.classes r q asks none s.0
 none-asked t r q outcome.Done asks none s = asking-input t.classes r q asks none s.0
