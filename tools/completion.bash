@@ -3,7 +3,7 @@ _reggio() {
   local word=${COMP_WORDS[COMP_CWORD]} before=${COMP_WORDS[COMP_CWORD - 1]}
   COMPREPLY=()
   case $COMP_CWORD in
-    1) mapfile -t COMPREPLY < <(compgen -W 'run slide plain check fmt code pack exec bulk' -- "$word") ;;
+    1) mapfile -t COMPREPLY < <(compgen -W 'run slide plain check fmt code pack exec when bulk' -- "$word") ;;
     2)
       case $before in
         bulk) mapfile -t COMPREPLY < <(compgen -W '1000 10000 100000' -- "$word") ;;
@@ -19,6 +19,11 @@ _reggio() {
       ;;
     *)
       case ${COMP_WORDS[1]},$before in
+        when,*)
+          [ "$COMP_CWORD" = 3 ] || return 0
+          compopt -o filenames
+          mapfile -t COMPREPLY < <(compgen -f -- "$word")
+          ;;
         *,--steps) mapfile -t COMPREPLY < <(compgen -W '1000 1000000 1000000000' -- "$word") ;;
         run,--every | slide,--every | exec,--every) mapfile -t COMPREPLY < <(compgen -W '0 1 100 1000' -- "$word") ;;
         run,* | slide,* | exec,* | plain,*)

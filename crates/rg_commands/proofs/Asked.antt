@@ -1,5 +1,5 @@
 -- How often a call asked the pacers, from what the run on the machine has told.
-use Rattle.std.proofs.Common.{◌≡◌, ◌⊎◌, ℕ, inl, inr, List, [], Option, Some, None, count_by, refl, sym, ◌∙◌, ap, subst, arith}
+use Rattle.std.proofs.Common.{◌≡◌, ℕ, inl, inr, List, [], Option, Some, None, count_by, refl, sym, ◌∙◌, ap, subst, arith}
 use Rattle.rg_base.specs.declared.event.Event.{Event}
 use Rattle.rg_base.specs.declared.outcome.Ended.{Ended}
 use Rattle.rg_base.specs.declared.outcome.Ended.TheVariants as ended
@@ -26,8 +26,8 @@ use Rattle.rg_run.proofs.Run.{run-of}
 use Rattle.rg_run.proofs.Sound.{stands-shown}
 use Rattle.rg_commands.specs.Asked.{AsksOver, RunAsks, SayYes, YesesOf}
 use Rattle.rg_words.specs.Commands.{Origin, generated}
-use Rattle.rg_commands.specs.Expected.{HasSource}
-use Rattle.rg_commands.specs.CutOff.{ForInput, Runs}
+use Rattle.rg_words.specs.Answers.{ForInput}
+use Rattle.rg_sources.specs.Sources.{Sources, HasSource, Runs}
 use Rattle.rg_commands.specs.Settled.{AskedCommand, AskedFrom, RunAsked}
 
 -- a run stands on the machine behind its whole steps, as it does behind all that were allowed
@@ -61,7 +61,7 @@ asks-none t input k m old new first h =
     let P : ℕ → Type 0 = λ q. AsksOver (program_of t) input q m old new in asks-first t input m old new (subst P first h)
 
 -- a run on the machine
-pub asked-from : (origin : Origin) (n : ℕ) (source : List ℕ) (left : Option (List ℕ)) (t : Tables) (code : Code) (m : Kept) (e : Ended)
+pub asked-from : (origin : Origin) (n : ℕ) (source : Sources) (left : Option (List ℕ)) (t : Tables) (code : Code) (m : Kept) (e : Ended)
     (old new : Option (List ℕ)) (quiet : Type 0) (first last : Asks) (count trace : ℕ) → first.count.asks ≡ count → first.trace.asks ≡ trace →
     Lowers (program_of t) code → Runs origin source (program_of t) →
     ForInput left (λ input. (rest : List ℕ) × WholeRun t code n old new m e quiet first last input rest) →
@@ -101,7 +101,7 @@ asked-from origin n source left t code m e old new quiet first last count trace 
     ]
 
 -- pacers that were tuned had been asked as often before
-pub asked-tuned : (origin : Origin) (source : List ℕ) (left : Option (List ℕ)) (m : Kept) (c d e t u v : ℕ) → d ≡ c → u ≡ t →
+pub asked-tuned : (origin : Origin) (source : Sources) (left : Option (List ℕ)) (m : Kept) (c d e t u v : ℕ) → d ≡ c → u ≡ t →
     RunAsked origin source left m d e u v → RunAsked origin source left m c e t v
 asked-tuned origin source left m c d e t u v count trace h =
     let P : ℕ → Type 0 = λ q. RunAsked origin source left m q e u v in
@@ -116,7 +116,7 @@ yeses-tuned m c d e t u v count trace h =
     subst Q trace (subst P count h)
 
 -- an empty input is the only one of a source that has nothing left
-pub asked-generated : (size : ℕ) (source : List ℕ) (left : Option (List ℕ)) (m : Kept) (c d t u : ℕ) →
+pub asked-generated : (size : ℕ) (source : Sources) (left : Option (List ℕ)) (m : Kept) (c d t u : ℕ) →
     RunAsked (generated size) source (Some []) m c d t u → AskedFrom (generated size) source left m c d t u
 asked-generated size source left m c d t u (inl none) = inl none
 asked-generated size source left m c d t u (inr h) =
@@ -128,7 +128,7 @@ asked-generated size source left m c d t u (inr h) =
     on-any None asks = ([], tt, asks)
     on-any (Some bytes) asks = (bytes, refl, asks)
 
-pub asked-command : (told : Option Told) (origin : Origin) (source : List ℕ) (left : Option (List ℕ)) (m : Kept) (c d t u : ℕ) →
+pub asked-command : (told : Option Told) (origin : Origin) (source : Sources) (left : Option (List ℕ)) (m : Kept) (c d t u : ℕ) →
     HasSource told origin source → AskedFrom origin source left m c d t u → AskedCommand told origin left m c d t u
 asked-command told origin source left m c d t u has (inl none) = inl none
 asked-command told origin source left m c d t u has (inr h) = inr (source, has, h)

@@ -1,17 +1,12 @@
 -- A generated program, its run, and the line behind it, as what was answered to `bulk`.
-use Rattle.std.proofs.Common.{◌≡◌, ◌≢◌, ℕ, All, inl, inr, List, [], ◌∷◌, ◌++◌, ◌⊎◌, Option, Some, refl, sym, ◌∙◌, ap, subst, arith, append-nil}
+use Rattle.std.proofs.Common.{◌≡◌, ◌≢◌, ℕ, inl, inr, List, [], ◌++◌, ◌⊎◌, Option, Some, refl, sym, ◌∙◌, ap, subst, arith, append-nil}
 use Rattle.std.proofs.Common.{append_assoc}
-use Rattle.std.proofs.lemmas.List.Elements.{All-from_recursion}
 use Rattle.rg_base.specs.declared.limits.TheConstants.{MOST_STEPS}
 use Rattle.rg_base.specs.declared.outcome.EndNumbers.{EndNumbers}
 use Rattle.rg_base.specs.Report.{bulk_line}
 use Rattle.rg_io.specs.Content.{Rose, Appends, AppendsPart, IsPrefix}
-use Rattle.rg_io.specs.Files.{Told}
 use Rattle.rg_io.proofs.Content.{Appends-more}
-use Rattle.rg_tree.specs.Tree.{Tree, Class}
 use Rattle.rg_tree.specs.Rows.RowTrees.{program_of}
-use Rattle.rg_rules.specs.Acceptance.{Accepted}
-use Rattle.rg_rules.specs.Names.{FewNames, HasFewNames}
 use Rattle.rg_rules.specs.Runs.{Ending, Running, Done, Stopped}
 use Rattle.rg_rules.specs.Runs as rules
 use Rattle.rg_make.specs.Generated as make
@@ -20,30 +15,12 @@ use Rattle.rg_run.specs.Sound.{Stands}
 use Rattle.rg_words.specs.declared.status.Status.{Status}
 use Rattle.rg_words.specs.declared.status.Status.TheVariants as status
 use Rattle.rg_words.specs.Commands.{bulk, generated}
-use Rattle.rg_commands.specs.Expected.{spelt, status_of, text_after, line_behind}
-use Rattle.rg_commands.specs.CutOff.{ForInput, Untouched, CutOffAt}
-use Rattle.rg_commands.specs.Settled.{Found, RanWhole, RanFrom, RanGenerated, RunCut, PutLine, Settles}
+use Rattle.rg_words.specs.Answers.{ForInput, PutLine}
+use Rattle.rg_sources.specs.Sources.{Sources}
+use Rattle.rg_commands.specs.Expected.{status_of, text_after, line_behind}
+use Rattle.rg_commands.specs.CutOff.{Untouched, CutOffAt}
+use Rattle.rg_commands.specs.Settled.{RanWhole, RanFrom, RanGenerated, RunCut, Settles}
 use Rattle.rg_commands.proofs.Settled.{bulk-stands}
-
--- the generated programs have few names
-few-generated : (seed size : ℕ) → FewNames (make.generated seed size)
-few-generated seed size = record {
-  methods = All-from_recursion (λ (c : Class). All HasFewNames c.members) (make.node_class ∷ make.list_class ∷ []) (
-    All-from_recursion HasFewNames make.node_class.members (tt, (tt, tt)),
-    (All-from_recursion HasFewNames make.list_class.members (tt, (omega arith, (omega arith, (omega arith, tt)))), tt),
-  );
-  main = omega arith;
-}
-
--- a generated program is found
-pub generated-found : (told : Option Told) (size : ℕ) (t : Tree) → t ≡ make.generated 1 size → Accepted t → Found told (generated size) t
-generated-found told size t is accepted = record {
-  source = [];
-  has = refl;
-  means = ap spelt is;
-  few_names = subst FewNames (sym is) (few-generated 1 size);
-  accepted = accepted;
-}
 
 -- a status of a run tells its ending
 done-ending : (e : Ending) → status.Done ≡ status_of e → e ≡ Done
@@ -57,7 +34,7 @@ no-line size numbers s Done h n = absurd (n h)
 no-line size numbers s (Stopped kind line) h n = refl
 
 -- what holds of a run on an empty input
-module _ (size : ℕ) (source : List ℕ) (s : Status) (old new : Option (List ℕ)) (m : Kept) (still : Type 0)
+module _ (size : ℕ) (source : Sources) (s : Status) (old new : Option (List ℕ)) (m : Kept) (still : Type 0)
     (r : RanWhole (generated size) MOST_STEPS source (Some []) s old new m still) where
   pub ran-status : s ≡ status_of (rules.plain (program_of r.tables) [] MOST_STEPS).ending
   ran-status =
@@ -75,7 +52,7 @@ pub no-fault : (s : Status) → (s ≡ status.InputFault → Rose 0 0) → s ≢
 no-fault s h e = elim (h e) [ inl more ↦ absurd (omega (arith, more)) | inr most ↦ absurd (omega (arith, most)) ]
 
 -- a run that stopped has no line behind it
-stopped-generated : (size : ℕ) (source : List ℕ) (s : Status) (old new : Option (List ℕ)) (m : Kept) (still : Type 0) → s ≢ status.Done →
+stopped-generated : (size : ℕ) (source : Sources) (s : Status) (old new : Option (List ℕ)) (m : Kept) (still : Type 0) → s ≢ status.Done →
     RanWhole (generated size) MOST_STEPS source (Some []) s old new m still → RanGenerated size source s old new m
 stopped-generated size source s old new m still n r =
     let t = program_of r.tables in
@@ -97,7 +74,7 @@ prefix-more part whole more p =
     record { rest = p.rest ++ more; whole_is = ap (λ q. q ++ more) p.whole_is ∙ append_assoc part p.rest more }
 
 -- where a run was cut off, so was `bulk`
-cut-run : (size : ℕ) (source : List ℕ) (old new : Option (List ℕ)) (m : Kept) (still : Type 0) →
+cut-run : (size : ℕ) (source : Sources) (old new : Option (List ℕ)) (m : Kept) (still : Type 0) →
     ForInput (Some []) (λ input. RunCut (generated size) MOST_STEPS source input m old new still) →
     CutOffAt (bulk size) source [] m old new (Unit {0})
 cut-run size source old new m still h =
@@ -115,14 +92,14 @@ cut-run size source old new m still h =
       },
     )
 
-cut-either : (size : ℕ) (source : List ℕ) (old new : Option (List ℕ)) (m : Kept) (still : Type 0) →
+cut-either : (size : ℕ) (source : Sources) (old new : Option (List ℕ)) (m : Kept) (still : Type 0) →
     Untouched m old new still ⊎ ForInput (Some []) (λ input. RunCut (generated size) MOST_STEPS source input m old new still) →
     Untouched m old new (Unit {0}) ⊎ CutOffAt (bulk size) source [] m old new (Unit {0})
 cut-either size source old new m still (inl u) = inl (u.0, u.1, tt)
 cut-either size source old new m still (inr h) = inr (cut-run size source old new m still h)
 
 -- a run that didn't come to its end is what `bulk` has answered
-pub generated-stops : (size : ℕ) (source : List ℕ) (left : Option (List ℕ)) (s : Status) (old new : Option (List ℕ)) (m : Kept) (still : Type 0) →
+pub generated-stops : (size : ℕ) (source : Sources) (left : Option (List ℕ)) (s : Status) (old new : Option (List ℕ)) (m : Kept) (still : Type 0) →
     s ≢ status.Done → s ≢ status.InputFault → RanFrom (generated size) MOST_STEPS source (Some []) s old new m still →
     Settles (bulk size) source left s old new m (Unit {0})
 generated-stops size source left status.Done old new m still n i h = absurd (n refl)
@@ -138,7 +115,7 @@ generated-stops size source left status.Memory old new m still n i h = cut-eithe
 generated-stops size source left status.Long old new m still n i h = absurd h
 
 -- a run that did, with its line behind it
-module _ (size : ℕ) (source : List ℕ) (old mid new : Option (List ℕ)) (m : Kept) (still : Type 0)
+module _ (size : ℕ) (source : Sources) (old mid new : Option (List ℕ)) (m : Kept) (still : Type 0)
     (r : RanWhole (generated size) MOST_STEPS source (Some []) status.Done old mid m still) where
   is-done : (rules.plain (program_of r.tables) [] MOST_STEPS).ending ≡ Done
   is-done = done-ending _ (ran-status size source status.Done old mid m still r)
@@ -178,7 +155,7 @@ module _ (size : ℕ) (source : List ℕ) (old mid new : Option (List ℕ)) (m :
   generated-ends left status.Long h = absurd h
 
 -- what was answered to `bulk`: the run's status and its line's
-pub bulk-settles : (size : ℕ) (source : List ℕ) (left : Option (List ℕ)) (ran s : Status) (old mid new : Option (List ℕ)) (m : Kept)
+pub bulk-settles : (size : ℕ) (source : Sources) (left : Option (List ℕ)) (ran s : Status) (old mid new : Option (List ℕ)) (m : Kept)
     (still : Type 0) →
     ran ≡ status.Done → RanFrom (generated size) MOST_STEPS source (Some []) ran old mid m still → PutLine s (bulk_line size (numbers_of m)) mid new →
     Settles (bulk size) source left s old new m (Unit {0})

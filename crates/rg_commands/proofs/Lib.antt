@@ -6,3 +6,4 @@ pub mod Generated
 mod Reported
 pub mod Asked
 pub mod Refused
+mod Planned

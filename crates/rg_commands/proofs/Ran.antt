@@ -26,8 +26,10 @@ use Rattle.rg_run.proofs.Run.{wrote-part}
 use Rattle.rg_words.specs.declared.status.Status.{Status}
 use Rattle.rg_words.specs.declared.status.Status.TheVariants as status
 use Rattle.rg_words.specs.Commands.{run, plain, exec, Origin, in_file, in_module}
-use Rattle.rg_commands.specs.Expected.{status_of, spelt, MeansFrom}
-use Rattle.rg_commands.specs.CutOff.{HasInput, ForInput, Runs, StandsAfter, CutOffAt, AsksAfter}
+use Rattle.rg_words.specs.Answers.{HasInput, ForInput}
+use Rattle.rg_sources.specs.Sources.{Sources, spelt, MeansFrom, Runs}
+use Rattle.rg_commands.specs.Expected.{status_of}
+use Rattle.rg_commands.specs.CutOff.{StandsAfter, CutOffAt, AsksAfter}
 use Rattle.rg_commands.specs.Settled.{Caused, status_of_ended, RanWhole, RanBeside, RanFrom, Settles}
 
 -- what a call on fresh numbers is told of the input holds of bytes that the source has
@@ -72,7 +74,7 @@ caused-by e i j o p n m h = record {
   notes_never_fall = h.notes_never_fall;
 }
 
-module _ (origin : Origin) (n : ℕ) (source : List ℕ) (left : Option (List ℕ)) (t : Tables) (runs : Runs origin source (program_of t)) (input : List ℕ)
+module _ (origin : Origin) (n : ℕ) (source : Sources) (left : Option (List ℕ)) (t : Tables) (runs : Runs origin source (program_of t)) (input : List ℕ)
     (is : HasInput left input) (k : ℕ) (Shown : State → Type 0) (old new : Option (List ℕ)) where
   answered : (e : Ended) (s : Status) → status_of_ended e ≡ s → Whole t (opening (program_of t) input) n k Shown old new e →
       s ≡ status_of (rules.plain (program_of t) input n).ending
@@ -87,7 +89,7 @@ module _ (origin : Origin) (n : ℕ) (source : List ℕ) (left : Option (List �
     sound = run-is-sound (program_of t) runs.accepted input k;
   }
 
-module _ (file : List ℕ) (n : ℕ) (source : List ℕ) (left : Option (List ℕ)) (t : Tables) (runs : Runs (in_file file) source (program_of t))
+module _ (file : List ℕ) (n : ℕ) (source : Sources) (left : Option (List ℕ)) (t : Tables) (runs : Runs (in_file file) source (program_of t))
     (input : List ℕ) (is : HasInput left input) (k : ℕ) (Shown : State → Type 0) (old new : Option (List ℕ)) where
   beside : (m : Kept) (still : Type 0) (unread : NeverAsks (program_of t) input n → still) (e : Ended) (s : Status) → IsFresh m →
       status_of_ended e ≡ s → Whole t (opening (program_of t) input) n k Shown old new e →
@@ -130,7 +132,7 @@ module _ (file : List ℕ) (n : ℕ) (source : List ℕ) (left : Option (List �
   beside-settles m still unread ended.OutputFault fresh h = inr (beside_cut m still unread fresh h)
   beside-settles m still unread ended.Memory fresh h = inr (beside_cut m still unread fresh h)
 
-module _ (origin : Origin) (n : ℕ) (source : List ℕ) (left : Option (List ℕ)) (t : Tables) (runs : Runs origin source (program_of t)) (input : List ℕ)
+module _ (origin : Origin) (n : ℕ) (source : Sources) (left : Option (List ℕ)) (t : Tables) (runs : Runs origin source (program_of t)) (input : List ℕ)
     (is : HasInput left input) (m : Kept) (rest : List ℕ) (old new : Option (List ℕ)) (still : Type 0)
     (unread : NeverAsks (program_of t) input n → still) (told : Tells (program_of t) input m.steps m.stepper.events) where
   whole : (e : Ended) (s : Status) → status_of_ended e ≡ s → Whole t (opening (program_of t) input) n m.steps (ShowsAt t m rest) old new e →
@@ -164,7 +166,7 @@ module _ (origin : Origin) (n : ℕ) (source : List ℕ) (left : Option (List �
   ran-from ended.Memory h = inr (input, is, (t, runs, stands_after h, unread))
 
 -- a run on the machine
-pub run-from : (origin : Origin) (n : ℕ) (source : List ℕ) (left : Option (List ℕ)) (t : Tables) (code : Code) (m : Kept) (e : Ended)
+pub run-from : (origin : Origin) (n : ℕ) (source : Sources) (left : Option (List ℕ)) (t : Tables) (code : Code) (m : Kept) (e : Ended)
     (old new : Option (List ℕ)) (quiet still : Type 0) (first last : Asks) → (quiet → still) → Runs origin source (program_of t) →
     ForInput left (λ input. (rest : List ℕ) × WholeRun t code n old new m e quiet first last input rest) →
     RanFrom origin n source left (status_of_ended e) old new m still
@@ -176,7 +178,7 @@ run-from origin n source left t code m e old new quiet still first last more run
 ]
 
 -- is what `run` or `slide` has answered, where the program comes from a file
-pub run-settles : (slides : Bool) (file : List ℕ) (n every : ℕ) (report : Bool) (source : List ℕ) (left : Option (List ℕ)) (s : Status)
+pub run-settles : (slides : Bool) (file : List ℕ) (n every : ℕ) (report : Bool) (source : Sources) (left : Option (List ℕ)) (s : Status)
     (old new : Option (List ℕ)) (m : Kept) (still : Type 0) →
     RanFrom (in_file file) n source left s old new m still → Settles (run slides file n every report) source left s old new m still
 run-settles slides file n every report source left status.Done old new m still h = h
@@ -191,7 +193,7 @@ run-settles slides file n every report source left status.Memory old new m still
 run-settles slides file n every report source left status.Long old new m still h = absurd h
 
 -- and what `exec` has answered, where it comes from a module
-pub exec-settles : (file : List ℕ) (n every : ℕ) (report : Bool) (source : List ℕ) (left : Option (List ℕ)) (s : Status)
+pub exec-settles : (file : List ℕ) (n every : ℕ) (report : Bool) (source : Sources) (left : Option (List ℕ)) (s : Status)
     (old new : Option (List ℕ)) (m : Kept) (still : Type 0) →
     RanFrom (in_module file) n source left s old new m still → Settles (exec file n every report) source left s old new m still
 exec-settles file n every report source left status.Done old new m still h = h
@@ -206,14 +208,14 @@ exec-settles file n every report source left status.Memory old new m still h = h
 exec-settles file n every report source left status.Long old new m still h = absurd h
 
 -- a program that the checker has passed
-pub runs-checked : (origin : Origin) (source : List ℕ) (t u : Tables) → u ≡ t → MeansFrom origin source (spelt (program_of t)) →
+pub runs-checked : (origin : Origin) (source : Sources) (t u : Tables) → u ≡ t → MeansFrom origin source (spelt (program_of t)) →
     judge_program (program_of t) ≡ Ok tt → Runs origin source (program_of u)
 runs-checked origin source t u same means judged =
     let P : Tables → Type 0 = λ q. Runs origin source (program_of q) in
     subst P (sym same) (record { means = means; accepted = ap result_err judged })
 
 -- a run on a machine of its own
-pub plain-settles : (file : List ℕ) (n k : ℕ) (source : List ℕ) (left : Option (List ℕ)) (t u : Tables) (start new_machine : Machine)
+pub plain-settles : (file : List ℕ) (n k : ℕ) (source : Sources) (left : Option (List ℕ)) (t u : Tables) (start new_machine : Machine)
     (m : Kept) (e : Ended) (old new : Option (List ℕ)) (quiet still : Type 0) → (quiet → still) → t ≡ u →
     Runs (in_file file) source (program_of u) → IsFresh m →
     Begins t start → begun e k ≤ n →

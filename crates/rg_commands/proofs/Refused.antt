@@ -1,31 +1,15 @@
 -- What a command answers where no program came to it.
-use Rattle.std.proofs.Common.{◌≡◌, ◌≢◌, ℕ, suc, ◌<◌, ◌≤◌, ◌⊎◌, inl, inr, Bool, true, false, List, length, replicate, Option, Some, None, refl, sym}
-use Rattle.std.proofs.Common.{◌∙◌, ap, subst, arith}
-use Rattle.std.specs.Bool.{OnTrue, OnFalse}
-use Rattle.std.proofs.lemmas.List.{length-replicate}
-use Rattle.rg_base.specs.declared.limits.TheConstants.{SOURCE_BYTES}
-use Rattle.rg_words.specs.declared.limits.TheConstants.{MODULE_BYTES}
-use Rattle.rg_io.specs.Files.{Told, HasLongFile}
+use Rattle.std.proofs.Common.{◌≢◌, ℕ, inl, inr, List, Option, refl}
+use Rattle.std.proofs.Common.{subst, arith}
+use Rattle.rg_io.specs.Files.{Told}
 use Rattle.rg_run.specs.Machine.{Kept, IsFresh}
 use Rattle.rg_words.specs.declared.status.Status.{Status}
 use Rattle.rg_words.specs.declared.status.Status.TheVariants as status
-use Rattle.rg_words.specs.Commands.{Command, Origin, in_file, in_module, origin_of}
-use Rattle.rg_commands.specs.Settled.{Settles, source_fault, memory, SettlesCommand, Refuses, Caused}
+use Rattle.rg_words.specs.Commands.{Command, Origin, origin_of}
+use Rattle.rg_sources.specs.Sources.{Sources}
+use Rattle.rg_sources.specs.Brings.{Refuses}
+use Rattle.rg_commands.specs.Settled.{Settles, source_fault, memory, SettlesCommand, Caused}
 use Rattle.rg_commands.proofs.Generated.{no-fault}
-
--- there are lists of any length
-long-list : (n : ℕ) → (source : List ℕ) × (n < length source)
-long-list n = (replicate (suc n) 0, omega (arith, length-replicate {A = ℕ} (suc n) 0))
-
--- a file that is too long is read as some source that is
-pub long-refuses : (told : Option Told) (file : List ℕ) → HasLongFile told file SOURCE_BYTES → Refuses told (in_file file) status.Long
-long-refuses None file h = let l = long-list SOURCE_BYTES in (l.0, tt, l.1)
-long-refuses (Some t) file h = h
-
--- and a module that is too long is read as some module that is
-pub long-module : (told : Option Told) (file : List ℕ) → HasLongFile told file MODULE_BYTES → Refuses told (in_module file) status.Long
-long-module None file h = let l = long-list MODULE_BYTES in (l.0, tt, l.1)
-long-module (Some t) file h = h
 
 -- where no program came, nothing is done
 pub refuses-settles : (told : Option Told) (c : Command) (s : Status) (left old : Option (List ℕ)) (m : Kept) (still : Type 0) →
@@ -35,10 +19,10 @@ refuses-settles told c (status.Refused f) left old m still h fresh quiet = inl (
 refuses-settles told c status.Usage left old m still h fresh quiet = absurd h
 refuses-settles told c (status.Trap kind line) left old m still h fresh quiet = absurd h
 refuses-settles told c status.Spent left old m still h fresh quiet = absurd h
-refuses-settles told c status.SourceFault left old m still h fresh quiet = inr (source_fault, (fresh, refl, quiet))
+refuses-settles told c status.SourceFault left old m still h fresh quiet = inr (inl (source_fault, (fresh, refl, quiet)))
 refuses-settles told c status.InputFault left old m still h fresh quiet = absurd h
 refuses-settles told c status.OutputFault left old m still h fresh quiet = absurd h
-refuses-settles told c status.Memory left old m still h fresh quiet = inr (memory, (fresh, refl, quiet))
+refuses-settles told c status.Memory left old m still h fresh quiet = inr (inl (memory, (fresh, refl, quiet)))
 refuses-settles told c status.Long left old m still h fresh quiet = inl (h.0, h.1, (h.2, (fresh, refl, quiet)))
 
 -- and neither the input nor the output or the notes failed
@@ -62,6 +46,6 @@ caused-unread s i o p n m c = record {
 }
 
 -- what was answered to a source is no fault of a file
-pub settles-inside : (c : Command) (source : List ℕ) (left : Option (List ℕ)) (s : Status) (old new : Option (List ℕ)) (m : Kept) (still : Type 0) →
+pub settles-inside : (c : Command) (source : Sources) (left : Option (List ℕ)) (s : Status) (old new : Option (List ℕ)) (m : Kept) (still : Type 0) →
     Settles c source left s old new m still → s ≢ status.SourceFault
 settles-inside c source left s old new m still h e = let P : Status → Type 0 = λ x. Settles c source left x old new m still in absurd (subst P e h)

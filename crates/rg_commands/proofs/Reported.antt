@@ -1,7 +1,6 @@
 -- What the notes have taken of the collections of a run.
-use Rattle.std.proofs.Common.{◌≡◌, ◌≢◌, ℕ, ◌≤◌, ◌⊎◌, inl, inr, Bool, true, false, List, [], ◌++◌, length, take, Option, Some, None, refl, sym, ap}
-use Rattle.std.proofs.Common.{subst, arith, append-nil, append_assoc}
-use Rattle.std.proofs.Math.Seq.{take-length}
+use Rattle.std.proofs.Common.{◌≡◌, ℕ, Bool, true, false, List, [], length, Option, refl, ap}
+use Rattle.std.proofs.Common.{arith}
 use Rattle.rg_base.specs.declared.event.Event.{Event}
 use Rattle.rg_base.specs.declared.fault.Fault.{Fault}
 use Rattle.rg_base.specs.declared.outcome.Ended.{Ended}
@@ -13,8 +12,9 @@ use Rattle.rg_run.specs.Reports.{Reports}
 use Rattle.rg_words.specs.declared.status.Status.{Status}
 use Rattle.rg_words.specs.declared.status.Status.TheVariants as status
 use Rattle.rg_words.specs.Commands.{Origin}
-use Rattle.rg_commands.specs.Settled.{status_of_ended, Refuses, Reported}
-use Rattle.rg_commands.proofs.Settled.{untouched-text}
+use Rattle.rg_words.proofs.Written.{untouched-text}
+use Rattle.rg_sources.specs.Brings.{Refuses}
+use Rattle.rg_commands.specs.Settled.{status_of_ended, Reported}
 
 -- what a run on the machine has given to the notes
 pub ran-reported : (report : Bool) (e : Ended) (events : List Event) (old new : Option (List ℕ)) → Reports report e events old new →

@@ -1,7 +1,6 @@
 -- What was answered to a source, where a run stands at a whole step, and where the input is as it was.
-use Rattle.std.proofs.Common.{◌≡◌, ℕ, ◌+◌, ◌⊎◌, inl, inr, Bool, true, false, List, [], ◌∷◌, ◌++◌, ◌-◌, Option, Some, None, refl, sym, ◌∙◌, ap, subst}
-use Rattle.std.proofs.Common.{arith, append-nil, append_assoc}
-use Rattle.std.specs.Bool.{OnTrue}
+use Rattle.std.proofs.Common.{◌≡◌, ℕ, ◌+◌, ◌⊎◌, inl, inr, true, false, List, [], ◌∷◌, ◌++◌, ◌-◌, Option, refl, sym, ◌∙◌, ap, subst}
+use Rattle.std.proofs.Common.{arith, append_assoc}
 use Rattle.rg_base.specs.declared.outcome.EndNumbers.{EndNumbers}
 use Rattle.rg_base.specs.Text.{text}
 use Rattle.rg_io.specs.Content.{Appends, IsPrefix}
@@ -18,20 +17,17 @@ use Rattle.rg_run.proofs.Sound.{stands-shown}
 use Rattle.rg_run.proofs.Run.{run-of, text-split}
 use Rattle.rg_words.specs.declared.status.Status.{Status}
 use Rattle.rg_words.specs.declared.status.Status.TheVariants as status
-use Rattle.rg_words.specs.Commands.{Command, run, plain, fmt, check, code, pack, bulk, exec, reads_input}
+use Rattle.rg_words.specs.Commands.{Command, run, plain, fmt, check, code, pack, bulk, exec, when, reads_input}
+use Rattle.rg_sources.specs.Sources.{Sources}
 use Rattle.rg_commands.specs.Expected.{text_after, line_behind}
 use Rattle.rg_commands.specs.CutOff.{Untouched, StandsAfter, bulk_added}
 use Rattle.rg_commands.specs.Settled.{EndsWell, StopsRun, CutOff, Settles}
 
-no_lie : true ≡ false → ⊥
+pub no_lie : true ≡ false → ⊥
 no_lie e = cc
 
 no_front : (b : ℕ) (bs : List ℕ) → [] ≡ b ∷ bs → ⊥
 no_front b bs e = cc
-
-pub untouched-text : (old new : Option (List ℕ)) → new ≡ old → Appends old new []
-untouched-text None new e = e
-untouched-text (Some xs) new e = e ∙ ap Some (sym (append-nil xs))
 
 -- the line behind a run is nothing, or that behind the same run of as many steps as it made
 line-made : (size : ℕ) (numbers : EndNumbers) (e f : Ending) (part : List ℕ) → (e ≡ Done → f ≡ Done) → IsPrefix part (line_behind size numbers e) →
@@ -73,7 +69,7 @@ bulk-stands size t n m part old new accepted shown prefix wrote =
     })
 
 -- what a command that reads no input answered holds beside what is still as it was
-module _ (source : List ℕ) (left old new : Option (List ℕ)) (m : Kept) (still : Type 0) (quiet : still) where
+module _ (source : Sources) (left old new : Option (List ℕ)) (m : Kept) (still : Type 0) (quiet : still) where
   untouched-still : (c : Command) → Untouched m old new (Unit {0}) ⊎ CutOff c source left old new m (Unit {0}) → reads_input c ≡ false →
       Untouched m old new still ⊎ CutOff c source left old new m still
   untouched-still c (inl u) e = inl (u.0, u.1, quiet)
@@ -85,6 +81,7 @@ module _ (source : List ℕ) (left old new : Option (List ℕ)) (m : Kept) (stil
   untouched-still (pack file) (inr h) e = inr h
   untouched-still (bulk size) (inr h) e = inr h
   untouched-still (exec file n every report) (inr h) e = absurd (no_lie e)
+  untouched-still (when file plan) (inr h) e = absurd (no_lie e)
 
   well-still : (c : Command) → EndsWell c source left old new m (Unit {0}) → reads_input c ≡ false → EndsWell c source left old new m still
   well-still (run slides file n every report) h e = absurd (no_lie e)
@@ -95,6 +92,7 @@ module _ (source : List ℕ) (left old new : Option (List ℕ)) (m : Kept) (stil
   well-still (pack file) h e = h
   well-still (bulk size) h e = h
   well-still (exec file n every report) h e = absurd (no_lie e)
+  well-still (when file plan) h e = absurd h
 
   stops-still : (c : Command) (s : Status) → StopsRun c source left s old new m (Unit {0}) → reads_input c ≡ false →
       StopsRun c source left s old new m still
@@ -106,6 +104,7 @@ module _ (source : List ℕ) (left old new : Option (List ℕ)) (m : Kept) (stil
   stops-still (pack file) s h e = absurd h
   stops-still (bulk size) s h e = h
   stops-still (exec file n every report) s h e = absurd (no_lie e)
+  stops-still (when file plan) s h e = absurd h
 
   pub settles-still : (c : Command) (s : Status) → reads_input c ≡ false → Settles c source left s old new m (Unit {0}) →
       Settles c source left s old new m still

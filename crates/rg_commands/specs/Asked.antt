@@ -15,8 +15,8 @@ use Rattle.rg_step.specs.Pacers.{Asks}
 use Rattle.rg_run.specs.Machine.{Kept, IsFresh}
 use Rattle.rg_run.specs.Sound.{Stands}
 use Rattle.rg_run.specs.States.{RunsThrough}
-use Rattle.rg_words.specs.Commands.{Origin, in_file, generated, in_module}
-use Rattle.rg_commands.specs.CutOff.{Runs}
+use Rattle.rg_words.specs.Commands.{Origin, in_file, generated, in_module, with_plan}
+use Rattle.rg_sources.specs.Sources.{Sources, Runs}
 
 -- over the first steps of a program on an input, so many, the pacer of a manager was asked once for each of them that asks it
 abbrev pub AsksOver : Tree → (input : List ℕ) → (steps : ℕ) → Manager → (old new : ℕ) → Type 0
@@ -36,6 +36,7 @@ abbrev pub input_for : Origin → List ℕ → List ℕ
 input_for (in_file file) input = input
 input_for (generated size) input = []
 input_for (in_module file) input = input
+input_for (with_plan file plan) input = input
 
 -- no run has begun, and no pacer was asked
 pub record Unasked (m : Kept) (count_old count_new trace_old trace_new : ℕ) : Type 0 where
@@ -44,7 +45,7 @@ pub record Unasked (m : Kept) (count_old count_new trace_old trace_new : ℕ) : 
   pub trace : trace_new ≡ trace_old
 
 -- a run of a program that comes from there stands on the machine behind its whole steps, and these asked the pacers
-pub record RunAsks (origin : Origin) (source input : List ℕ) (m : Kept) (count_old count_new trace_old trace_new : ℕ) : Type 0 where
+pub record RunAsks (origin : Origin) (source : Sources) (input : List ℕ) (m : Kept) (count_old count_new trace_old trace_new : ℕ) : Type 0 where
   pub tables : Tables
   pub runs : Runs origin source (program_of tables)
   pub stands : Stands tables input m.steps m

@@ -1,37 +1,27 @@
 -- Which program runs, and what a call leaves that was refused or cut off (docs/promises.md).
-use Rattle.std.specs.Prelude.{◌≡◌, ◌≢◌, ℕ, ◌+◌, ◌-◌, ◌<◌, ◌≤◌, Bool, true, false, ◌⊎◌, ⊤, List, [], ◌++◌, take, length, Option, Some, None, IfSome}
+use Rattle.std.specs.Prelude.{◌≡◌, ℕ, ◌+◌, ◌-◌, ◌<◌, ◌≤◌, true, List, [], ◌++◌, Option}
 use Rattle.rg_base.specs.declared.limits.TheConstants.{MOST_STEPS}
 use Rattle.rg_io.specs.Content.{Appends, AppendsPart, AppendsUpTo}
 use Rattle.rg_tree.specs.Tree.{Tree}
 use Rattle.rg_tree.specs.Rows.Tables.{Tables}
 use Rattle.rg_tree.specs.Rows.RowTrees.{program_of}
 use Rattle.rg_tree.specs.Canonical.{canon}
-use Rattle.rg_rules.specs.Acceptance.{Accepted}
 use Rattle.rg_rules.specs.Runs.{opening}
 use Rattle.rg_rules.specs.Runs as rules
 use Rattle.rg_rules.specs.Outside.Texts.{text_of, added}
 use Rattle.rg_rules.specs.Outside.Inputs.{first_asks}
 use Rattle.rg_run.specs.Machine.{Kept, IsFresh, numbers_of}
 use Rattle.rg_run.specs.Sound.{IsSound, Stands, NeverAsks}
-use Rattle.rg_words.specs.Commands.{Command, run, plain, fmt, check, code, pack, bulk, exec, Origin, in_file, generated, in_module}
-use Rattle.rg_commands.specs.Expected.{spelt, MeansFrom, accepted_text, listed_text, packed_text, text_after, line_behind}
-
--- the input's source has these bytes left, where it tells that
-abbrev pub HasInput : (left : Option (List ℕ)) → (input : List ℕ) → Type 0
-HasInput left input = IfSome left (λ told. told ≡ input)
-
--- a fact on the input: the bytes that the source tells, where it tells them, else some bytes
-abbrev pub ForInput : (left : Option (List ℕ)) → ((input : List ℕ) → Type 0) → Type 0
-ForInput left P = (input : List ℕ) × HasInput left input × P input
+use Rattle.rg_words.specs.Commands.{Command, run, plain, fmt, check, code, pack, bulk, exec, when, in_file, generated, in_module}
+use Rattle.rg_words.specs.Commands.{with_plan}
+use Rattle.rg_plan.specs.Plans.{PlanOf}
+use Rattle.rg_sources.specs.Sources.{Sources, spelt, planned, MeansFrom}
+use Rattle.rg_when.specs.Scheduled.{schedule_answer}
+use Rattle.rg_commands.specs.Expected.{accepted_text, listed_text, packed_text, text_after, line_behind}
 
 -- no run has begun, the output is untouched, and the input is still as it was
 abbrev pub Untouched : Kept → (old new : Option (List ℕ)) → (still : Type 0) → Type 0
 Untouched m old new still = IsFresh m × (new ≡ old) × still
-
--- that tree comes from there, and it is accepted
-pub record Runs (origin : Origin) (source : List ℕ) (t : Tree) : Type 0 where
-  pub means : MeansFrom origin source (spelt t)
-  pub accepted : Accepted t
 
 -- A run of at most n steps stands on the machine behind a whole step k. The output has taken the text of the first k - 1 steps
 -- and a prefix of `last`, which is what step k added.
@@ -46,8 +36,9 @@ abbrev pub bulk_added : (size : ℕ) → Tables → (k : ℕ) → Kept → List 
 bulk_added size t k m = added t (opening (program_of t) []) k ++ line_behind size (numbers_of m) (rules.plain (program_of t) [] k).ending
 
 -- What a call leaves that was cut off by the output or the notes, or for want of memory. A run stands at a whole step. Else no
--- run has begun, and the output has taken a prefix of the command's text. Where no step asks for the input, it is still as it was.
-abbrev pub CutOffAt : Command → (source input : List ℕ) → Kept → (old new : Option (List ℕ)) → (still : Type 0) → Type 0
+-- run has begun, and the output has taken a prefix of the command's text. Where no step asks for the input, it is still as it was, but for `when`, which
+-- reads its schedule there.
+abbrev pub CutOffAt : Command → (source : Sources) (input : List ℕ) → Kept → (old new : Option (List ℕ)) → (still : Type 0) → Type 0
 CutOffAt (run slides file n every report) source input m old new still =
     (t : Tables) × Runs (in_file file) source (program_of t)
     × StandsAfter t input n m.steps m (added t (opening (program_of t) input) m.steps) old new
@@ -66,6 +57,9 @@ CutOffAt (exec file n every report) source input m old new still =
     (t : Tables) × Runs (in_module file) source (program_of t)
     × StandsAfter t input n m.steps m (added t (opening (program_of t) input) m.steps) old new
     × (NeverAsks (program_of t) input n → still)
+CutOffAt (when file plan) source input m old new still =
+    (t : Tree) × (p : PlanOf) × MeansFrom (with_plan file plan) source (planned t p) × IsFresh m
+    × AppendsPart old new (schedule_answer t p input).text
 
 -- a run of n steps has made k whole ones, the next asks for the input, and the output has taken the text of all k
 pub record AsksAfter (t : Tree) (input : List ℕ) (n k : ℕ) (old new : Option (List ℕ)) : Type 0 where
@@ -75,8 +69,8 @@ pub record AsksAfter (t : Tree) (input : List ℕ) (n k : ℕ) (old new : Option
   pub wrote : Appends old new (text_after t input k)
   pub sound : IsSound t input k
 
--- what a call leaves that was cut off by the input; commands other than `run`, `plain` and `exec` never are
-abbrev pub CutAtInput : Command → (source input : List ℕ) → Kept → (old new : Option (List ℕ)) → Type 0
+-- what a call leaves that was cut off by the input; commands other than `run`, `plain`, `exec` and `when` never are
+abbrev pub CutAtInput : Command → (source : Sources) (input : List ℕ) → Kept → (old new : Option (List ℕ)) → Type 0
 CutAtInput (run slides file n every report) source input m old new =
     (t : Tables) × Runs (in_file file) source (program_of t) × Stands t input m.steps m × AsksAfter (program_of t) input n m.steps old new
 CutAtInput (plain file n) source input m old new =
@@ -88,3 +82,5 @@ CutAtInput (pack file) source input m old new = ⊥
 CutAtInput (bulk size) source input m old new = ⊥
 CutAtInput (exec file n every report) source input m old new =
     (t : Tables) × Runs (in_module file) source (program_of t) × Stands t input m.steps m × AsksAfter (program_of t) input n m.steps old new
+CutAtInput (when file plan) source input m old new =
+    (t : Tree) × (p : PlanOf) × MeansFrom (with_plan file plan) source (planned t p) × IsFresh m × (new ≡ old)

@@ -6,6 +6,7 @@ use Rattle.rg_commands.specs.declared.setting.Setting.{Setting}
 use Rattle.rg_words.specs.declared.status.Status.{Status}
 use Rattle.rg_words.specs.Commands.{Command, Origin, reports}
 use Rattle.rg_io.specs.Files.{Told}
+use Rattle.rg_sources.specs.Sources.{Sources}
 use Rattle.rg_commands.specs.Settled.{RanFrom, Settles, SettlesCommand, Reported, Caused}
 use Rattle.rg_commands.specs.Tallies.{TunedAsBefore, SayYesOf}
 
@@ -34,13 +35,13 @@ PacedIn s count_old count_new trace_old trace_new =
     TunedAsBefore count_old count_new trace_old trace_new × SayYesOf s.machine.now count_old count_new trace_old trace_new
 
 -- what a run on its machine has answered, and given to its output
-abbrev pub RanIn : {O R : Type 0} → (O → Option (List ℕ)) → Origin → (n : ℕ) → (source : List ℕ) → (left : Option (List ℕ)) → Status
+abbrev pub RanIn : {O R : Type 0} → (O → Option (List ℕ)) → Origin → (n : ℕ) → (source : Sources) → (left : Option (List ℕ)) → Status
     → (old new : Setting O R) → (still : Type 0) → Type 0
 RanIn taken origin n source left s old new still =
     RanFrom origin n source left s (taken old.out.now) (taken new.out.now) new.machine.now still
 
 -- what was answered to a source, and given to its output
-abbrev pub SettlesIn : {O R : Type 0} → (O → Option (List ℕ)) → Command → (source : List ℕ) → (left : Option (List ℕ)) → Status
+abbrev pub SettlesIn : {O R : Type 0} → (O → Option (List ℕ)) → Command → (source : Sources) → (left : Option (List ℕ)) → Status
     → (old new : Setting O R) → (still : Type 0) → Type 0
 SettlesIn taken c source left s old new still = Settles c source left s (taken old.out.now) (taken new.out.now) new.machine.now still
 

@@ -1,34 +1,36 @@
 -- What a command has answered and left, by its status (docs/promises.md).
-use Rattle.std.specs.Prelude.{◌≡◌, ◌≢◌, ◌≤◌, ◌+◌, ℕ, ◌⊎◌, ⊤, Bool, true, false, List, [], ◌++◌, take, length, Option, Some, Result, Ok, Err}
+use Rattle.std.specs.Prelude.{◌≡◌, ◌≤◌, ◌+◌, ℕ, ◌⊎◌, Bool, true, false, List, [], ◌++◌, take, length, Option, Some}
 use Rattle.rg_base.specs.declared.event.Event.{Event}
 use Rattle.rg_base.specs.declared.fault.Fault.{Fault}
 use Rattle.rg_base.specs.declared.limits.TheConstants.{MOST_STEPS}
 use Rattle.rg_base.specs.declared.outcome.Ended.{Ended}
 use Rattle.rg_base.specs.declared.outcome.Ended.TheVariants as ended
-use Rattle.rg_io.specs.Content.{Rose, Appends, AppendsPart}
-use Rattle.rg_io.specs.Files.{Told, HasFile}
+use Rattle.rg_io.specs.Content.{Rose, Appends}
+use Rattle.rg_io.specs.Files.{Told}
 use Rattle.rg_tree.specs.Tree.{Tree}
 use Rattle.rg_tree.specs.Rows.Tables.{Tables}
 use Rattle.rg_tree.specs.Rows.RowTrees.{program_of}
 use Rattle.rg_tree.specs.Canonical.{canon}
 use Rattle.rg_tree.specs.Laws.{ParsesBack}
-use Rattle.rg_rules.specs.Acceptance.{Accepted, first_fault}
-use Rattle.rg_rules.specs.Names.{FewNames}
+use Rattle.rg_rules.specs.Acceptance.{first_fault}
 use Rattle.rg_rules.specs.Runs.{opening}
 use Rattle.rg_rules.specs.Runs as rules
 use Rattle.rg_rules.specs.Outside.Texts.{added}
-use Rattle.rg_check.specs.Checked.{Checked}
 use Rattle.rg_run.specs.Machine.{Kept, IsFresh, numbers_of}
 use Rattle.rg_run.specs.Reports.{event_lines, AreCutLines}
 use Rattle.rg_run.specs.Sound.{Stands, NeverAsks}
 use Rattle.rg_commands.specs.Asked.{Unasked, RunAsks, input_for}
 use Rattle.rg_words.specs.declared.status.Status.{Status}
 use Rattle.rg_words.specs.declared.status.Status.TheVariants as status
-use Rattle.rg_words.specs.Commands.{Command, run, plain, fmt, check, code, pack, bulk, exec, Origin, in_file, generated, in_module, origin_of}
+use Rattle.rg_words.specs.Commands.{Command, run, plain, fmt, check, code, pack, bulk, exec, when, Origin, in_file, generated, in_module}
+use Rattle.rg_words.specs.Commands.{origin_of}
 use Rattle.rg_words.specs.Commands.{every_of, runs_on, is_slide}
-use Rattle.rg_commands.specs.Expected.{too_long, faulty, spelt, HasSource, MeansFrom, Means, status_of, accepted_text, listed_text, packed_text}
-use Rattle.rg_commands.specs.Expected.{text_after, line_behind}
-use Rattle.rg_commands.specs.CutOff.{HasInput, ForInput, Runs, Untouched, StandsAfter, AsksAfter, CutOffAt, CutAtInput}
+use Rattle.rg_words.specs.Answers.{HasInput, ForInput}
+use Rattle.rg_when.specs.Scheduled.{SettlesSchedule}
+use Rattle.rg_sources.specs.Sources.{Sources, too_long, faulty, spelt, planned, HasSource, MeansFrom, Means, Runs}
+use Rattle.rg_commands.specs.Expected.{status_of, accepted_text, listed_text, packed_text, text_after, line_behind}
+use Rattle.rg_commands.specs.CutOff.{Untouched, StandsAfter, AsksAfter, CutOffAt, CutAtInput}
+use Rattle.rg_plan.specs.Plans.{PlanOf}
 
 -- the status of a run
 abbrev pub status_of_ended : Ended → Status
@@ -40,7 +42,7 @@ status_of_ended ended.OutputFault = status.OutputFault
 status_of_ended ended.Memory = status.Memory
 
 -- a whole run on the machine, of the program that comes from there, with that status
-pub record RanWhole (origin : Origin) (n : ℕ) (source : List ℕ) (left : Option (List ℕ)) (s : Status) (old new : Option (List ℕ)) (m : Kept)
+pub record RanWhole (origin : Origin) (n : ℕ) (source : Sources) (left : Option (List ℕ)) (s : Status) (old new : Option (List ℕ)) (m : Kept)
     (still : Type 0) : Type 0 where
   pub tables : Tables
   pub runs : Runs origin source (program_of tables)
@@ -52,18 +54,18 @@ pub record RanWhole (origin : Origin) (n : ℕ) (source : List ℕ) (left : Opti
   pub unread : NeverAsks (program_of tables) input n → still
 
 -- a run that was cut off by the output or for want of memory
-abbrev pub RunCut : Origin → (n : ℕ) → (source input : List ℕ) → Kept → (old new : Option (List ℕ)) → (still : Type 0) → Type 0
+abbrev pub RunCut : Origin → (n : ℕ) → (source : Sources) (input : List ℕ) → Kept → (old new : Option (List ℕ)) → (still : Type 0) → Type 0
 RunCut origin n source input m old new still =
     (t : Tables) × Runs origin source (program_of t) × StandsAfter t input n m.steps m (added t (opening (program_of t) input) m.steps) old new
     × (NeverAsks (program_of t) input n → still)
 
 -- a run that was cut off by the input
-abbrev pub RunCutAtInput : Origin → (n : ℕ) → (source input : List ℕ) → Kept → (old new : Option (List ℕ)) → Type 0
+abbrev pub RunCutAtInput : Origin → (n : ℕ) → (source : Sources) (input : List ℕ) → Kept → (old new : Option (List ℕ)) → Type 0
 RunCutAtInput origin n source input m old new =
     (t : Tables) × Runs origin source (program_of t) × Stands t input m.steps m × AsksAfter (program_of t) input n m.steps old new
 
 -- what a run on the machine has answered, of a program that comes from there
-abbrev pub RanFrom : Origin → (n : ℕ) → (source : List ℕ) → (left : Option (List ℕ)) → Status → (old new : Option (List ℕ)) → Kept
+abbrev pub RanFrom : Origin → (n : ℕ) → (source : Sources) → (left : Option (List ℕ)) → Status → (old new : Option (List ℕ)) → Kept
     → (still : Type 0)
     → Type 0
 RanFrom origin n source left status.Done old new m still = RanWhole origin n source left status.Done old new m still
@@ -80,7 +82,7 @@ RanFrom origin n source left status.Memory old new m still =
 RanFrom origin n source left status.Long old new m still = ⊥
 
 -- a whole run of a generated program on an empty input, with that status and, behind it, the line of `bulk`
-pub record RanGenerated (size : ℕ) (source : List ℕ) (s : Status) (old new : Option (List ℕ)) (m : Kept) : Type 0 where
+pub record RanGenerated (size : ℕ) (source : Sources) (s : Status) (old new : Option (List ℕ)) (m : Kept) : Type 0 where
   pub tables : Tables
   pub runs : Runs (generated size) source (program_of tables)
   pub status_is : s ≡ status_of (rules.plain (program_of tables) [] MOST_STEPS).ending
@@ -89,21 +91,8 @@ pub record RanGenerated (size : ℕ) (source : List ℕ) (s : Status) (old new :
       ++ line_behind size (numbers_of m) (rules.plain (program_of tables) [] MOST_STEPS).ending)
   pub stands : Stands tables [] MOST_STEPS m
 
--- how a line was written: whole, or a part of it, where the output failed or no memory was found
-abbrev pub PutLine : Status → (line : List ℕ) → (old new : Option (List ℕ)) → Type 0
-PutLine status.Done line old new = Appends old new line
-PutLine (status.Refused f) line old new = ⊥
-PutLine status.Usage line old new = ⊥
-PutLine (status.Trap kind at) line old new = ⊥
-PutLine status.Spent line old new = ⊥
-PutLine status.SourceFault line old new = ⊥
-PutLine status.InputFault line old new = ⊥
-PutLine status.OutputFault line old new = AppendsPart old new line
-PutLine status.Memory line old new = AppendsPart old new line
-PutLine status.Long line old new = ⊥
-
 -- a whole run beside the machine
-pub record RanBeside (file : List ℕ) (n : ℕ) (source : List ℕ) (left : Option (List ℕ)) (s : Status) (old new : Option (List ℕ)) (m : Kept)
+pub record RanBeside (file : List ℕ) (n : ℕ) (source : Sources) (left : Option (List ℕ)) (s : Status) (old new : Option (List ℕ)) (m : Kept)
     (still : Type 0) : Type 0 where
   pub tree : Tree
   pub runs : Runs (in_file file) source tree
@@ -115,36 +104,36 @@ pub record RanBeside (file : List ℕ) (n : ℕ) (source : List ℕ) (left : Opt
   pub unread : NeverAsks tree input n → still
 
 -- the canonical text of the tree that the source spells was written
-pub record Formatted (source : List ℕ) (old new : Option (List ℕ)) (m : Kept) : Type 0 where
+pub record Formatted (source : Sources) (old new : Option (List ℕ)) (m : Kept) : Type 0 where
   pub tree : Tree
-  pub means : Means source (spelt tree)
+  pub means : Means source.file (spelt tree)
   pub wrote : Appends old new (canon tree)
   pub back : ParsesBack tree
   pub fresh : IsFresh m
 
 -- the tree that the source spells is accepted, and that was written
-pub record Passed (file source : List ℕ) (old new : Option (List ℕ)) (m : Kept) : Type 0 where
+pub record Passed (file : List ℕ) (source : Sources) (old new : Option (List ℕ)) (m : Kept) : Type 0 where
   pub tree : Tree
   pub runs : Runs (in_file file) source tree
   pub wrote : Appends old new accepted_text
   pub fresh : IsFresh m
 
 -- the tree that the source spells is accepted, and the listing of its code was written
-pub record Listed (file source : List ℕ) (old new : Option (List ℕ)) (m : Kept) : Type 0 where
+pub record Listed (file : List ℕ) (source : Sources) (old new : Option (List ℕ)) (m : Kept) : Type 0 where
   pub tree : Tree
   pub runs : Runs (in_file file) source tree
   pub wrote : Appends old new (listed_text tree)
   pub fresh : IsFresh m
 
 -- the tree that the source spells is accepted, and the bytes of its module were written
-pub record Packed (file source : List ℕ) (old new : Option (List ℕ)) (m : Kept) : Type 0 where
+pub record Packed (file : List ℕ) (source : Sources) (old new : Option (List ℕ)) (m : Kept) : Type 0 where
   pub tree : Tree
   pub runs : Runs (in_file file) source tree
   pub wrote : Appends old new (packed_text tree)
   pub fresh : IsFresh m
 
 -- a command that came to its end
-abbrev pub EndsWell : Command → (source : List ℕ) → (left old new : Option (List ℕ)) → Kept → (still : Type 0) → Type 0
+abbrev pub EndsWell : Command → (source : Sources) → (left old new : Option (List ℕ)) → Kept → (still : Type 0) → Type 0
 EndsWell (run slides file n every report) source left old new m still = RanWhole (in_file file) n source left status.Done old new m still
 EndsWell (plain file n) source left old new m still = RanBeside file n source left status.Done old new m still
 EndsWell (fmt file) source left old new m still = Formatted source old new m
@@ -153,9 +142,10 @@ EndsWell (code file) source left old new m still = Listed file source old new m
 EndsWell (pack file) source left old new m still = Packed file source old new m
 EndsWell (bulk size) source left old new m still = RanGenerated size source status.Done old new m
 EndsWell (exec file n every report) source left old new m still = RanWhole (in_module file) n source left status.Done old new m still
+EndsWell (when file plan) source left old new m still = ⊥
 
 -- a run that didn't
-abbrev pub StopsRun : Command → (source : List ℕ) → (left : Option (List ℕ)) → Status → (old new : Option (List ℕ)) → Kept → (still : Type 0) → Type 0
+abbrev pub StopsRun : Command → (source : Sources) → (left : Option (List ℕ)) → Status → (old new : Option (List ℕ)) → Kept → (still : Type 0) → Type 0
 StopsRun (run slides file n every report) source left s old new m still = RanWhole (in_file file) n source left s old new m still
 StopsRun (plain file n) source left s old new m still = RanBeside file n source left s old new m still
 StopsRun (fmt file) source left s old new m still = ⊥
@@ -164,13 +154,14 @@ StopsRun (code file) source left s old new m still = ⊥
 StopsRun (pack file) source left s old new m still = ⊥
 StopsRun (bulk size) source left s old new m still = RanGenerated size source s old new m
 StopsRun (exec file n every report) source left s old new m still = RanWhole (in_module file) n source left s old new m still
+StopsRun (when file plan) source left s old new m still = ⊥
 
 -- the tree that the source spells has that first fault
-abbrev pub HasFault : List ℕ → Fault → Type 0
-HasFault source f = (t : Tree) × Means source (spelt t) × (first_fault t ≡ Some f)
+abbrev pub HasFault : Sources → Fault → Type 0
+HasFault source f = (t : Tree) × Means source.file (spelt t) × (first_fault t ≡ Some f)
 
--- the checker's fault, where a command checks
-abbrev pub IsFaulted : Command → List ℕ → Fault → Type 0
+-- the checker's fault, where a command checks; that of a program with a plan is one of what comes from there
+abbrev pub IsFaulted : Command → Sources → Fault → Type 0
 IsFaulted (run slides file n every report) source f = HasFault source f
 IsFaulted (plain file n) source f = HasFault source f
 IsFaulted (fmt file) source f = ⊥
@@ -179,9 +170,10 @@ IsFaulted (code file) source f = HasFault source f
 IsFaulted (pack file) source f = HasFault source f
 IsFaulted (bulk size) source f = ⊥
 IsFaulted (exec file n every report) source f = ⊥
+IsFaulted (when file plan) source f = ⊥
 
 -- a command that was cut off by the output or for want of memory; one that reads no input has none
-abbrev pub CutOff : Command → (source : List ℕ) → (left old new : Option (List ℕ)) → Kept → (still : Type 0) → Type 0
+abbrev pub CutOff : Command → (source : Sources) → (left old new : Option (List ℕ)) → Kept → (still : Type 0) → Type 0
 CutOff (run slides file n every report) source left old new m still = ForInput left
     (λ input. CutOffAt (run slides file n every report) source input m old new still)
 CutOff (plain file n) source left old new m still = ForInput left (λ input. CutOffAt (plain file n) source input m old new still)
@@ -192,9 +184,10 @@ CutOff (pack file) source left old new m still = CutOffAt (pack file) source [] 
 CutOff (bulk size) source left old new m still = CutOffAt (bulk size) source [] m old new still
 CutOff (exec file n every report) source left old new m still = ForInput left
     (λ input. CutOffAt (exec file n every report) source input m old new still)
+CutOff (when file plan) source left old new m still = ForInput left (λ input. CutOffAt (when file plan) source input m old new still)
 
--- what was answered to a source
-abbrev pub Settles : Command → (source : List ℕ) → (left : Option (List ℕ)) → Status → (old new : Option (List ℕ)) → Kept → (still : Type 0) → Type 0
+-- what was answered to a source; what `when` answers to a schedule is said below
+abbrev pub Settles : Command → (source : Sources) → (left : Option (List ℕ)) → Status → (old new : Option (List ℕ)) → Kept → (still : Type 0) → Type 0
 Settles c source left status.Done old new m still = EndsWell c source left old new m still
 Settles c source left (status.Refused f) old new m still =
     (MeansFrom (origin_of c) source (faulty f) ⊎ IsFaulted c source f) × Untouched m old new still
@@ -212,59 +205,21 @@ pub data Unread (told : Option Told) (c : Command) : Status → Type 0 where
   source_fault : Unread told c status.SourceFault
   memory : Unread told c status.Memory
 
+-- the schedule of the plan that comes from there was read, and no run has begun on the machine
+pub record RanSchedule (told : Option Told) (c : Command) (left : Option (List ℕ)) (s : Status) (old new : Option (List ℕ)) (m : Kept) : Type 0 where
+  pub source : Sources
+  pub has : HasSource told (origin_of c) source
+  pub tree : Tree
+  pub plan : PlanOf
+  pub means : MeansFrom (origin_of c) source (planned tree plan)
+  pub settles : SettlesSchedule tree plan left s old new
+  pub fresh : IsFresh m
+
 -- what was answered to a command, with a source that its program has
 abbrev pub SettlesCommand : Option Told → Command → (left : Option (List ℕ)) → Status → (old new : Option (List ℕ)) → Kept → (still : Type 0) → Type 0
 SettlesCommand told c left s old new m still =
-    ((source : List ℕ) × HasSource told (origin_of c) source × Settles c source left s old new m still)
-    ⊎ (Unread told c s × Untouched m old new still)
-
--- a fact that is known of generated programs
-abbrev pub IfGenerated : Origin → Type 0 → Type 0
-IfGenerated (in_file file) P = ⊤
-IfGenerated (generated size) P = P
-IfGenerated (in_module file) P = ⊤
-
--- what a command asks of its program: few names, and a generated one is accepted
-pub record Serves (c : Command) (t : Tree) : Type 0 where
-  pub few_names : FewNames t
-  pub accepted : IfGenerated (origin_of c) (Accepted t)
-
--- the program that comes from there
-pub record Found (told : Option Told) (origin : Origin) (t : Tree) : Type 0 where
-  pub source : List ℕ
-  pub has : HasSource told origin source
-  pub means : MeansFrom origin source (spelt t)
-  pub few_names : FewNames t
-  pub accepted : IfGenerated origin (Accepted t)
-
--- why none comes from there
-abbrev pub Refuses : Option Told → Origin → Status → Type 0
-Refuses told origin status.Done = ⊥
-Refuses told origin (status.Refused f) = (source : List ℕ) × HasSource told origin source × MeansFrom origin source (faulty f)
-Refuses told origin status.Usage = ⊥
-Refuses told origin (status.Trap kind line) = ⊥
-Refuses told origin status.Spent = ⊥
-Refuses told origin status.SourceFault = ⊤
-Refuses told origin status.InputFault = ⊥
-Refuses told origin status.OutputFault = ⊥
-Refuses told origin status.Memory = ⊤
-Refuses told origin status.Long = (source : List ℕ) × HasSource told origin source × MeansFrom origin source too_long
-
--- what comes from there
-abbrev pub Brings : Option Told → Origin → Result Tables Status → Type 0
-Brings told origin (Ok t) = Found told origin (program_of t)
-Brings told origin (Err s) = Refuses told origin s
-
--- the program that was raised from the module there
-pub record Raised (told : Option Told) (file : List ℕ) (t : Tree) : Type 0 where
-  pub source : List ℕ
-  pub has : HasFile told file source
-  pub runs : Runs (in_module file) source t
-
--- what a file with a module brings
-abbrev pub BringsRaised : Option Told → (file : List ℕ) → Result Checked Status → Type 0
-BringsRaised told file (Ok a) = Raised told file (program_of a.program)
-BringsRaised told file (Err s) = Refuses told (in_module file) s
+    ((source : Sources) × HasSource told (origin_of c) source × Settles c source left s old new m still)
+    ⊎ ((Unread told c s × Untouched m old new still) ⊎ RanSchedule told c left s old new m)
 
 -- A call names a fault of the input only where its count rose, and one of the output only where its own count or that of the notes rose; and no
 -- count falls.
@@ -274,19 +229,6 @@ pub record Caused (s : Status) (input_old input_new out_old out_new notes_old no
   pub input_never_falls : input_old ≤ input_new
   pub output_never_falls : out_old ≤ out_new
   pub notes_never_fall : notes_old ≤ notes_new
-
--- the same of a command that gives nothing to the notes
-pub record CausedBeside (s : Status) (input_old input_new out_old out_new : ℕ) : Type 0 where
-  pub input_fault : s ≡ status.InputFault → Rose input_old input_new
-  pub output_fault : s ≡ status.OutputFault → Rose out_old out_new
-  pub input_never_falls : input_old ≤ input_new
-  pub output_never_falls : out_old ≤ out_new
-
--- and that reads no input either
-pub record CausedByOutput (s : Status) (out_old out_new : ℕ) : Type 0 where
-  pub no_input_fault : s ≢ status.InputFault
-  pub output_fault : s ≡ status.OutputFault → Rose out_old out_new
-  pub output_never_falls : out_old ≤ out_new
 
 -- What the notes have taken before a status is told: with a report the lines of a run's collections, for want of memory maybe without the last, after
 -- a fault of the output or the notes maybe with a part of it, and else nothing.
@@ -312,13 +254,13 @@ abbrev pub Chooses : Command → Kept → Type 0
 Chooses c m = ¬ IsFresh m → m.stepper.slides ≡ is_slide c
 
 -- how often a run of a program that comes from there asked the pacers, on an input that its source has
-abbrev pub RunAsked : Origin → (source : List ℕ) → (left : Option (List ℕ)) → Kept → (count_old count_new trace_old trace_new : ℕ) → Type 0
+abbrev pub RunAsked : Origin → (source : Sources) → (left : Option (List ℕ)) → Kept → (count_old count_new trace_old trace_new : ℕ) → Type 0
 RunAsked origin source left m count_old count_new trace_old trace_new =
     Unasked m count_old count_new trace_old trace_new
     ⊎ ForInput left (λ input. RunAsks origin source input m count_old count_new trace_old trace_new)
 
 -- the same of what a command did with its program
-abbrev pub AskedFrom : Origin → (source : List ℕ) → (left : Option (List ℕ)) → Kept → (count_old count_new trace_old trace_new : ℕ) → Type 0
+abbrev pub AskedFrom : Origin → (source : Sources) → (left : Option (List ℕ)) → Kept → (count_old count_new trace_old trace_new : ℕ) → Type 0
 AskedFrom origin source left m count_old count_new trace_old trace_new =
     Unasked m count_old count_new trace_old trace_new
     ⊎ ForInput left (λ input. RunAsks origin source (input_for origin input) m count_old count_new trace_old trace_new)
@@ -327,5 +269,5 @@ AskedFrom origin source left m count_old count_new trace_old trace_new =
 abbrev pub AskedCommand : Option Told → Origin → (left : Option (List ℕ)) → Kept → (count_old count_new trace_old trace_new : ℕ) → Type 0
 AskedCommand told origin left m count_old count_new trace_old trace_new =
     Unasked m count_old count_new trace_old trace_new
-    ⊎ ((source : List ℕ) × HasSource told origin source
+    ⊎ ((source : Sources) × HasSource told origin source
     × ForInput left (λ input. RunAsks origin source (input_for origin input) m count_old count_new trace_old trace_new))

@@ -3,9 +3,10 @@ use Rattle.std.specs.Prelude.{◌≡◌, ℕ, List, Option}
 use Rattle.rg_io.specs.Files.{Told}
 use Rattle.rg_pace.specs.Asked.{Asked}
 use Rattle.rg_run.specs.Machine.{Kept}
+use Rattle.rg_sources.specs.Sources.{Sources}
+use Rattle.rg_commands.specs.Settled.{RunAsked, AskedFrom, AskedCommand}
 use Rattle.rg_commands.specs.Asked.{SayYes}
 use Rattle.rg_words.specs.Commands.{Origin}
-use Rattle.rg_commands.specs.Settled.{RunAsked, AskedFrom, AskedCommand}
 
 -- both pacers are tuned to that number
 abbrev pub TunedTo : ℕ → (count trace : Asked) → Type 0
@@ -16,12 +17,12 @@ abbrev pub TunedAsBefore : (count_old count_new trace_old trace_new : Asked) →
 TunedAsBefore count_old count_new trace_old trace_new = (count_new.tuned ≡ count_old.tuned) × (trace_new.tuned ≡ trace_old.tuned)
 
 -- how often a run of a program that comes from there asked them
-abbrev pub RunAskedOf : Origin → (source : List ℕ) → (left : Option (List ℕ)) → Kept → (count_old count_new trace_old trace_new : Asked) → Type 0
+abbrev pub RunAskedOf : Origin → (source : Sources) → (left : Option (List ℕ)) → Kept → (count_old count_new trace_old trace_new : Asked) → Type 0
 RunAskedOf origin source left m count_old count_new trace_old trace_new =
     RunAsked origin source left m count_old.asks count_new.asks trace_old.asks trace_new.asks
 
 -- how often a command asked them with its program
-abbrev pub AskedFromOf : Origin → (source : List ℕ) → (left : Option (List ℕ)) → Kept → (count_old count_new trace_old trace_new : Asked) → Type 0
+abbrev pub AskedFromOf : Origin → (source : Sources) → (left : Option (List ℕ)) → Kept → (count_old count_new trace_old trace_new : Asked) → Type 0
 AskedFromOf origin source left m count_old count_new trace_old trace_new =
     AskedFrom origin source left m count_old.asks count_new.asks trace_old.asks trace_new.asks
 

@@ -8,9 +8,8 @@ ghost use Rattle.rg_run.specs.Machine.{IsFresh, numbers_of};
 ghost use Rattle.rg_rules.specs.Acceptance.{Accepted as IsAccepted};
 ghost use Rattle.rg_rules.specs.Names.{FewNames};
 ghost use Rattle.rg_words.specs.Commands.{bulk, generated};
-ghost use Rattle.rg_commands.specs.Expected.{spelt, MeansFrom};
-ghost use Rattle.rg_commands.specs.CutOff.{Runs};
-ghost use Rattle.rg_commands.specs.Settled.{PutLine, CausedByOutput};
+ghost use Rattle.rg_words.specs.Answers.{PutLine, CausedByOutput};
+ghost use Rattle.rg_sources.specs.Sources.{Sources, spelt, MeansFrom, Runs};
 ghost use Rattle.rg_commands.specs.Setting.{IsLent, SlidesOn, SettlesIn, CausedIn};
 ghost use Rattle.rg_commands.specs.Tallies.{TunedTo, RunAskedOf, SayYesOf};
 
@@ -51,12 +50,12 @@ impl<O: Sink, R: Sink> Setting<'_, O, R> {
         trace: &mut dyn Pacer,
     ) -> Status
         requires { IsFresh self.old.machine.now }
-        ensures settles { (source : List ℕ) (left : Option (List ℕ)) →
+        ensures settles { (source : Sources) (left : Option (List ℕ)) →
             Runs (generated size) source (program_of accepted.now.program) →
             SettlesIn O.taken (bulk size) source left result self.old self.new (Unit {0}) }
         ensures notes { R.taken self.new.notes.now ≡ R.taken self.old.notes.now }
         ensures tuned { TunedTo 0 (tally count.new) (tally trace.new) }
-        ensures asked { (source : List ℕ) →
+        ensures asked { (source : Sources) →
             Runs (generated size) source (program_of accepted.now.program) →
             RunAskedOf (generated size) source (Some []) self.new.machine.now
             (tally count.old) (tally count.new) (tally trace.old) (tally trace.new) }
@@ -90,13 +89,13 @@ impl<O: Sink, R: Sink> Setting<'_, O, R> {
         requires fresh { IsFresh self.old.machine.now }
         requires names { FewNames (program_of program) }
         requires accepted { IsAccepted (program_of program) }
-        ensures settles { (source : List ℕ) (left : Option (List ℕ)) →
+        ensures settles { (source : Sources) (left : Option (List ℕ)) →
             MeansFrom (generated size) source (spelt (program_of program)) →
             SettlesIn O.taken (bulk size) source left result self.old self.new (Unit {0}) }
         ensures notes { R.taken self.new.notes.now ≡ R.taken self.old.notes.now }
         ensures tuned { ¬ IsFresh self.new.machine.now →
             TunedTo 0 (tally count.new) (tally trace.new) }
-        ensures asked { (source : List ℕ) →
+        ensures asked { (source : Sources) →
             MeansFrom (generated size) source (spelt (program_of program)) →
             RunAskedOf (generated size) source (Some []) self.new.machine.now
             (tally count.old) (tally count.new) (tally trace.old) (tally trace.new) }

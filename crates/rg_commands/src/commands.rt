@@ -4,9 +4,11 @@ ghost use Rattle.std.specs.Prelude.{◌≡◌, ◌≤◌, ℕ, List, false};
 ghost use Rattle.rg_tree.specs.Rows.RowTrees.{program_of};
 ghost use Rattle.rg_io.specs.Content.{Rose};
 ghost use Rattle.rg_words.specs.Commands.{origin_of, opens_file, reads_input, is_slide};
+ghost use Rattle.rg_words.specs.Commands.{is_scheduled};
 ghost use Rattle.rg_words.specs.Requests.{command_of, command_for, AsksWithin, TaskWithin};
-ghost use Rattle.rg_commands.specs.Expected.{spelt, MeansFrom};
-ghost use Rattle.rg_commands.specs.Settled.{Serves, Tunes, Chooses};
+ghost use Rattle.rg_sources.specs.Sources.{Sources, spelt, MeansFrom};
+ghost use Rattle.rg_sources.specs.Brings.{Serves};
+ghost use Rattle.rg_commands.specs.Settled.{Tunes, Chooses};
 ghost use Rattle.rg_commands.specs.Setting.{IsUnused, IsLent, SlidesTo, SettlesIn};
 ghost use Rattle.rg_commands.specs.Setting.{SettlesCommandIn, CausedIn, ReportedOf};
 ghost use Rattle.rg_commands.specs.Tallies.{AskedFromOf, AskedCommandOf, SayYesOf};
@@ -16,10 +18,10 @@ use crate::code::list_program;
 use crate::format::format_program;
 use crate::pack::pack_program;
 use crate::plain::plain_program;
-use crate::reading::program_from;
 use crate::setting::Setting;
 use rg_io::{Files, Sink, Source};
 use rg_pace::Pacer;
+use rg_sources::program_from;
 use rg_tree::Program;
 use rg_words::{Request, Status, Task};
 
@@ -35,7 +37,7 @@ impl<O: Sink, R: Sink> Setting<'_, O, R> {
     ) -> Status
         requires unused { IsUnused self.old }
         requires program { Serves (command_of request) (program_of program) }
-        ensures settles { (source : List ℕ) →
+        ensures settles { (source : Sources) →
             MeansFrom (origin_of (command_of request.entry)) source (spelt (program_of program)) →
             SettlesIn O.taken (command_of request.entry) source (I.left input.old) result
             self.old self.new (input.new ≡ input.old)
@@ -126,10 +128,12 @@ impl<O: Sink, R: Sink> Setting<'_, O, R> {
         ensures tuned { Tunes (command_for task.entry) self.new.machine.now
             (tally count.new).tuned (tally trace.new).tuned }
         ensures slides { Chooses (command_for task.entry) self.new.machine.now }
-        ensures asked { AskedCommandOf (F.told files.old) (origin_of (command_for task.entry))
+        ensures asked { is_scheduled (command_for task.entry) ≡ false →
+            AskedCommandOf (F.told files.old) (origin_of (command_for task.entry))
             (I.left input.old) self.new.machine.now
             (tally count.old) (tally count.new) (tally trace.old) (tally trace.new) }
-        ensures yeses { SayYesOf self.new.machine.now
+        ensures yeses { is_scheduled (command_for task.entry) ≡ false →
+            SayYesOf self.new.machine.now
             (tally count.old) (tally count.new) (tally trace.old) (tally trace.new) }
         ensures source_fault { result ≡ Status.SourceFault →
             Rose (F.faults files.old) (F.faults files.new) }
@@ -142,6 +146,9 @@ impl<O: Sink, R: Sink> Setting<'_, O, R> {
             Task::OfProgram(request) => self.answer_request(request, files, input, count, trace),
             Task::OfModule { file, options } => {
                 self.answer_module(file, options, files, input, count, trace)
+            }
+            Task::OfPlan { file, plan } => {
+                self.answer_plan(file, plan, files, input, count, trace)
             }
         }
     }

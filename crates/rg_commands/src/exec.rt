@@ -8,10 +8,10 @@ ghost use Rattle.rg_commands.specs.Setting.{IsUnused, IsLent, SlidesTo, SettlesC
 ghost use Rattle.rg_commands.specs.Setting.{ReportedIn, CausedIn};
 ghost use Rattle.rg_commands.specs.Tallies.{TunedTo, AskedCommandOf, SayYesOf};
 
-use crate::reading::module_in;
 use crate::setting::Setting;
 use rg_io::{Files, Sink, Source};
 use rg_pace::Pacer;
+use rg_sources::module_in;
 use rg_words::{RunOptions, Status};
 
 impl<O: Sink, R: Sink> Setting<'_, O, R> {

@@ -5,9 +5,9 @@ ghost use Rattle.rg_tree.specs.Rows.RowTrees.{program_of};
 ghost use Rattle.rg_run.specs.Machine.{IsFresh, Kept};
 ghost use Rattle.rg_rules.specs.Names.{FewNames};
 ghost use Rattle.rg_words.specs.Commands.{plain, in_file};
-ghost use Rattle.rg_commands.specs.Expected.{spelt, Means};
-ghost use Rattle.rg_commands.specs.CutOff.{Runs};
-ghost use Rattle.rg_commands.specs.Settled.{Settles, CausedBeside};
+ghost use Rattle.rg_words.specs.Answers.{CausedBeside};
+ghost use Rattle.rg_sources.specs.Sources.{Sources, spelt, Means, Runs};
+ghost use Rattle.rg_commands.specs.Settled.{Settles};
 
 use crate::ended::status_of;
 use rg_base::Stop;
@@ -27,7 +27,7 @@ fn plain_accepted<I: Source, O: Sink>(
     input: &mut I,
     out: &mut O,
 ) -> Status
-    ensures settles { (file source : List ℕ) (m : Kept) →
+    ensures settles { (file : List ℕ) (source : Sources) (m : Kept) →
         Runs (in_file file) source (program_of accepted.now.program) → IsFresh m →
         Settles (plain file steps) source (I.left input.old) result
         (O.taken out.old) (O.taken out.new) m (input.new ≡ input.old) }
@@ -53,8 +53,8 @@ pub(crate) fn plain_program<I: Source, O: Sink>(
     out: &mut O,
 ) -> Status
     requires { FewNames (program_of program) }
-    ensures settles { (file source : List ℕ) (m : Kept) →
-        Means source (spelt (program_of program)) → IsFresh m →
+    ensures settles { (file : List ℕ) (source : Sources) (m : Kept) →
+        Means source.file (spelt (program_of program)) → IsFresh m →
         Settles (plain file steps) source (I.left input.old) result
         (O.taken out.old) (O.taken out.new) m (input.new ≡ input.old) }
     ensures caused { CausedBeside result (I.faults input.old) (I.faults input.new)

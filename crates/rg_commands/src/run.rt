@@ -6,8 +6,7 @@ ghost use Rattle.rg_code.specs.Lowering.{Lowers};
 ghost use Rattle.rg_run.specs.Machine.{IsFresh};
 ghost use Rattle.rg_rules.specs.Names.{FewNames};
 ghost use Rattle.rg_words.specs.Commands.{run, Origin, in_file};
-ghost use Rattle.rg_commands.specs.Expected.{spelt, Means};
-ghost use Rattle.rg_commands.specs.CutOff.{Runs};
+ghost use Rattle.rg_sources.specs.Sources.{Sources, spelt, Means, Runs};
 ghost use Rattle.rg_commands.specs.Setting.{IsUnused, IsLent, SlidesOn, SlidesTo, RanIn, SettlesIn};
 ghost use Rattle.rg_commands.specs.Setting.{ReportedIn, CausedIn, PacedIn};
 ghost use Rattle.rg_commands.specs.Tallies.{TunedTo, RunAskedOf, SayYesOf};
@@ -56,7 +55,7 @@ impl<O: Sink, R: Sink> Setting<'_, O, R> {
     ) -> Status
         requires fresh { IsFresh self.old.machine.now }
         requires lowers { Lowers (program_of lowered.now.accepted.now.program) lowered.now.code }
-        ensures ran { (origin : Origin) (source : List ℕ) →
+        ensures ran { (origin : Origin) (source : Sources) →
             Runs origin source (program_of lowered.now.accepted.now.program) →
             RanIn O.taken origin options.steps source (I.left input.old) result
             self.old self.new (input.new ≡ input.old)
@@ -95,13 +94,13 @@ impl<O: Sink, R: Sink> Setting<'_, O, R> {
         trace: &mut dyn Pacer,
     ) -> Status
         requires { IsFresh self.old.machine.now }
-        ensures ran { (origin : Origin) (source : List ℕ) →
+        ensures ran { (origin : Origin) (source : Sources) →
             Runs origin source (program_of accepted.now.program) →
             RanIn O.taken origin options.steps source (I.left input.old) result
             self.old self.new (input.new ≡ input.old) }
         ensures notes { ReportedIn R.taken options.report result self.old self.new }
         ensures tuned { TunedTo options.every (tally count.new) (tally trace.new) }
-        ensures asked { (origin : Origin) (source : List ℕ) →
+        ensures asked { (origin : Origin) (source : Sources) →
             Runs origin source (program_of accepted.now.program) →
             RunAskedOf origin source (I.left input.old) self.new.machine.now
             (tally count.old) (tally count.new) (tally trace.old) (tally trace.new) }
@@ -131,13 +130,15 @@ impl<O: Sink, R: Sink> Setting<'_, O, R> {
     ) -> Status
         requires unused { IsUnused self.old }
         requires names { FewNames (program_of program) }
-        ensures settles { (file source : List ℕ) → Means source (spelt (program_of program)) →
+        ensures settles { (file : List ℕ) (source : Sources) →
+            Means source.file (spelt (program_of program)) →
             SettlesIn O.taken (run options.slides file options.steps options.every options.report)
             source (I.left input.old) result self.old self.new (input.new ≡ input.old) }
         ensures notes { ReportedIn R.taken options.report result self.old self.new }
         ensures tuned { ¬ IsFresh self.new.machine.now →
             TunedTo options.every (tally count.new) (tally trace.new) }
-        ensures asked { (file source : List ℕ) → Means source (spelt (program_of program)) →
+        ensures asked { (file : List ℕ) (source : Sources) →
+            Means source.file (spelt (program_of program)) →
             RunAskedOf (in_file file) source (I.left input.old) self.new.machine.now
             (tally count.old) (tally count.new) (tally trace.old) (tally trace.new) }
         ensures yeses { SayYesOf self.new.machine.now

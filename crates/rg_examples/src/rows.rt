@@ -1,5 +1,5 @@
-//! The table of rows: calls on one file, `a`, with what each writes. `""` is an empty word
-//! (docs/architecture.md, "Tests").
+//! The table of rows: calls on a file, `a`, maybe with a second one, `p`, with what each writes.
+//! `""` is an empty word (docs/architecture.md, "Tests").
 
 use crate::calls::{Streams, call_on, streams_of};
 use crate::cells::expanded;
@@ -90,10 +90,17 @@ struct Handed {
     streams: Streams,
 }
 
-/// The file and the streams of a row; None where no memory was found.
+/// The files and the streams of a row; None where no memory was found.
 fn ample(alloc: Global, row: &Row<'_>) -> Option<Handed> {
     let mut files = MemFiles::new(alloc);
-    files.add("a", &expanded(alloc, row.source)?).ok()?;
+    let source = match row.source.split_once(" @ ") {
+        None => row.source,
+        Some((source, plan)) => {
+            files.add("p", &expanded(alloc, plan)?).ok()?;
+            source
+        }
+    };
+    files.add("a", &expanded(alloc, source)?).ok()?;
     let streams = streams_of(alloc, &expanded(alloc, row.input)?)?;
     Some(Handed { files, streams })
 }

@@ -9,17 +9,20 @@ use Rattle.rg_io.proofs.Content.{Rose-since}
 use Rattle.rg_run.specs.Machine.{Kept, numbers_of}
 use Rattle.rg_words.specs.declared.status.Status.{Status}
 use Rattle.rg_words.specs.declared.status.Status.TheVariants as status
-use Rattle.rg_words.specs.Commands.{Command, command, origin_of, reads_input, may_read, opens_file, may_open, steps_of}
+use Rattle.rg_words.specs.Commands.{Command, command, origin_of, reads_input, may_read, opens_file, may_open, may_schedule, steps_of}
 use Rattle.rg_words.specs.Statuses.{is_answer, is_refusal, is_cut_off, is_from_outside}
-use Rattle.rg_commands.specs.Expected.{HasSource, ExpectsStatus}
-use Rattle.rg_commands.specs.CutOff.{ForInput, Untouched, CutOffAt, CutAtInput}
-use Rattle.rg_top.specs.Each.{StandsForEach}
-use Rattle.rg_top.specs.Headline.{ForSource, Exactly, ExactlyWhere, Answers, IsExpected, MayTell}
-use Rattle.rg_commands.specs.Laws.{OneAnswer}
-use Rattle.rg_commands.specs.Settled.{Settles, Unread, source_fault, memory, SettlesCommand, Tunes, Chooses}
-use Rattle.rg_top.specs.Inner.Told.{Becomes}
+use Rattle.rg_words.specs.Statuses.{IsBadSchedule}
+use Rattle.rg_words.specs.Answers.{ForInput}
+use Rattle.rg_sources.specs.Sources.{Sources, HasSource}
+use Rattle.rg_commands.specs.Expected.{ExpectsStatus}
+use Rattle.rg_commands.specs.CutOff.{Untouched, CutOffAt, CutAtInput}
+use Rattle.rg_commands.specs.Settled.{RanSchedule, Settles, Unread, source_fault, memory, SettlesCommand, Tunes, Chooses}
 use Rattle.rg_commands.proofs.Meaning.{expects-one, refusal-any}
-use Rattle.rg_top.proofs.Settled.{answers-of, cut-of, status-of}
+use Rattle.rg_top.specs.Each.{StandsForEach}
+use Rattle.rg_top.specs.Headline.{ForSource, Exactly, ExactlyWhere, Answers, IsExpected, MayTell, UnlessSchedule}
+use Rattle.rg_commands.specs.Laws.{OneAnswer}
+use Rattle.rg_top.specs.Inner.Told.{Becomes}
+use Rattle.rg_top.proofs.Settled.{answers-of, cut-of, status-of, schedule-of, schedule-cut, schedule-input, schedule-status, schedule-refused}
 use Rattle.rg_top.proofs.NoteLines.{rose-then}
 
 -- facts on the status that the layers under the top call gave, on an output fault and on want of memory hold of what was told
@@ -49,24 +52,29 @@ unread-outside told c s memory = refl
 -- what was answered to a file, by its source
 module _ (told : Option Told) (left : Option (List ℕ)) (words : List (List ℕ)) (c : Command) (s : Status) (old new : Option (List ℕ)) (m : Kept)
     (still : Type 0) (asked : command words ≡ Some c) where
-  for-source : (P : Command → List ℕ → List ℕ → Type 0) (source : List ℕ) → HasSource told (origin_of c) source → ForInput left (P c source) →
+  for-source : (P : Command → Sources → List ℕ → Type 0) (source : Sources) → HasSource told (origin_of c) source → ForInput left (P c source) →
       ForSource told left words P
   for-source P source has h = (c, source, asked, has, h)
 
   file-answers : SettlesCommand told c left s old new m still →
       OnTrue (is_answer s) (ForSource told left words (λ d source input. Answers d source input s old new m still))
   file-answers (inl h) = on-true _ _ (is_answer s) (answers-of c h.0 left s old new m still h.2) (for-source _ h.0 h.1)
-  file-answers (inr u) = unread-answer told c s _ u.0
+  file-answers (inr (inl u)) = unread-answer told c s _ u.0
+  file-answers (inr (inr r)) = on-true _ _ (is_answer s) (schedule-of told c left s old new m still r) (for-source _ r.source r.has)
 
   file-cut : SettlesCommand told c left s old new m still →
       Untouched m old new still ⊎ ForSource told left words (λ d source input. CutOffAt d source input m old new still)
   file-cut (inl h) = elim (cut-of c h.0 left s old new m still h.2) [ inl u ↦ inl u | inr k ↦ inr (for-source _ h.0 h.1 k) ]
-  file-cut (inr u) = inl u.1
+  file-cut (inr (inl u)) = inl u.1
+  file-cut (inr (inr r)) = inr (for-source _ r.source r.has (schedule-cut told c left s old new m still r))
 
   file-input : s ≡ status.InputFault → SettlesCommand told c left s old new m still →
       ForSource told left words (λ d source input. CutAtInput d source input m old new)
   file-input e (inl h) = let P : Status → Type 0 = λ x. Settles c h.0 left x old new m still in for-source _ h.0 h.1 (subst P e h.2)
-  file-input e (inr u) = absurd (go s u.0 e)
+  file-input e (inr (inr r)) =
+      let P : Status → Type 0 = λ x. RanSchedule told c left x old new m in
+      let q = subst P e r in for-source _ q.source q.has (schedule-input told c left old new m q)
+  file-input e (inr (inl u)) = absurd (go s u.0 e)
     where
       go : (x : Status) → Unread told c x → x ≢ status.InputFault
       go x source_fault e = cc
@@ -76,7 +84,8 @@ module _ (told : Option Told) (left : Option (List ℕ)) (words : List (List ℕ
   file-status : SettlesCommand told c left s old new m still →
       ForSource told left words (λ d source input. ExpectsStatus d source input s) ⊎ (is_from_outside s ≡ true)
   file-status (inl h) = elim (status-of c h.0 left s old new m still h.2) [ inl e ↦ inl (for-source _ h.0 h.1 e) | inr o ↦ inr o ]
-  file-status (inr u) = inr (unread-outside told c s u.0)
+  file-status (inr (inl u)) = inr (unread-outside told c s u.0)
+  file-status (inr (inr r)) = elim (schedule-status told c left s old new m r) [ inl e ↦ inl (for-source _ r.source r.has e) | inr o ↦ inr o ]
 
 answer-inside : (s : Status) → is_answer s ≡ true → is_from_outside s ≡ false
 answer-inside status.Done h = refl
@@ -110,21 +119,21 @@ module _ (law : OneAnswer) (told : Option Told) (left : Option (List ℕ)) (word
   }
   exactly-where (inr o) = outside-exactly left o
 
-  -- a refusal is expected whatever the input has
-  exactly-refused : is_refusal s ≡ true → (bytes : List ℕ) →
+  -- a refusal is expected whatever the input has, but where it is that of a schedule
+  exactly-refused : is_refusal s ≡ true → (may_schedule (command words) ≡ true → ¬ IsBadSchedule s) → (bytes : List ℕ) →
       ForSource told left words (λ c source input. ExpectsStatus c source input given) ⊎ (is_from_outside given ≡ true) →
       ExactlyWhere told (Some bytes) words given s
-  exactly-refused refuses bytes (inl (c, source, asked, has, (input, is, expects))) = record {
+  exactly-refused refuses n bytes (inl (c, source, asked, has, (input, is, expects))) = record {
     only = λ e.
         let P : Status → Type 0 = λ x. ExpectsStatus c source input x in
-        (c, source, asked, has, (bytes, refl, refusal-any c source input bytes s refuses (subst P e expects)));
+        (c, source, asked, has, (bytes, refl, refusal-any c source input bytes s refuses (λ on. n (ap may_schedule asked ∙ on)) (subst P e expects)));
     always = λ d again all.
         let same : d ≡ c = cc in
         let Q : Command → Type 0 = λ x. HasSource told (origin_of x) source → ExpectsStatus x source bytes s in
         let there = subst Q same (λ h. all source bytes h refl) has in
-        inl (expects-one law c source input given s expects (refusal-any c source bytes input s refuses there));
+        inl (expects-one law c source input given s expects (refusal-any c source bytes input s refuses (λ on. n (ap may_schedule asked ∙ on)) there));
   }
-  exactly-refused refuses bytes (inr o) = outside-exactly (Some bytes) o
+  exactly-refused refuses n bytes (inr o) = outside-exactly (Some bytes) o
 
 -- where nothing is cut off but for want of memory, the answer is the expected one
 expected-unless : (P : Type 0) (s : Status) → P ⊎ (is_from_outside s ≡ true) → s ≢ status.SourceFault → s ≢ status.InputFault →
@@ -217,11 +226,12 @@ module _ {told : Option Told} {left : Option (List ℕ)} {words : List (List ℕ
       a.told_is
 
   -- and a refusal whatever the input has
-  pub answer-refused : OneAnswer → (s : Status) → is_answer s ≡ true → is_refusal s ≡ true → (bytes : List ℕ) →
+  pub answer-refused : OneAnswer → (s : Status) → is_answer s ≡ true → is_refusal s ≡ true →
+      (may_schedule (command words) ≡ true → ¬ IsBadSchedule s) → (bytes : List ℕ) →
       ExactlyWhere told (Some bytes) words answer s
-  answer-refused law s i r bytes =
+  answer-refused law s i r n bytes =
       told-status (λ x. ExactlyWhere told (Some bytes) words x s) given answer
-      (exactly-refused law told left words given s i r bytes (file-status told left words a.asked given old new m still a.command_is a.settles))
+      (exactly-refused law told left words given s i r n bytes (file-status told left words a.asked given old new m still a.command_is a.settles))
       (outside-exactly law told left words status.OutputFault s i (Some bytes) refl)
       (outside-exactly law told left words status.Memory s i (Some bytes) refl) a.told_is
 
@@ -244,28 +254,35 @@ module _ {told : Option Told} {left : Option (List ℕ)} {words : List (List ℕ
       by (inr (inr e)) = inr e
 
 -- a refusal leaves nothing
-untouched-of : (told : Option Told) (left : Option (List ℕ)) (c : Command) (s : Status) (old new : Option (List ℕ)) (m : Kept) (still : Type 0) →
-    SettlesCommand told c left s old new m still → OnTrue (is_refusal s) (Untouched m old new still)
-untouched-of told left c status.Done old new m still h = tt
-untouched-of told left c (status.Refused f) old new m still (inl h) = h.2.1
-untouched-of told left c (status.Refused f) old new m still (inr u) = u.1
-untouched-of told left c status.Usage old new m still (inl h) = absurd h.2
-untouched-of told left c status.Usage old new m still (inr u) = u.1
-untouched-of told left c (status.Trap kind line) old new m still h = tt
-untouched-of told left c status.Spent old new m still h = tt
-untouched-of told left c status.SourceFault old new m still (inl h) = absurd h.2
-untouched-of told left c status.SourceFault old new m still (inr u) = u.1
-untouched-of told left c status.InputFault old new m still h = tt
-untouched-of told left c status.OutputFault old new m still h = tt
-untouched-of told left c status.Memory old new m still h = tt
-untouched-of told left c status.Long old new m still (inl h) = h.2.1
-untouched-of told left c status.Long old new m still (inr u) = u.1
+untouched-of : (told : Option Told) (left : Option (List ℕ)) (words : List (List ℕ)) (c : Command) (s : Status) (old new : Option (List ℕ)) (m : Kept)
+    (still : Type 0) → command words ≡ Some c → SettlesCommand told c left s old new m still →
+    OnTrue (is_refusal s) (Untouched m old new (UnlessSchedule (command words) s still))
+untouched-of told left words c status.Done old new m still e h = tt
+untouched-of told left words c (status.Refused f) old new m still e (inl h) = (h.2.1.0, h.2.1.1, inr h.2.1.2)
+untouched-of told left words c (status.Refused f) old new m still e (inr (inl u)) = (u.1.0, u.1.1, inr u.1.2)
+untouched-of told left words c (status.Refused f) old new m still e (inr (inr r)) =
+    let q = schedule-refused told c left f old new m r in (r.fresh, q.2, inl (ap may_schedule e ∙ q.0, q.1))
+untouched-of told left words c status.Usage old new m still e (inl h) = absurd h.2
+untouched-of told left words c status.Usage old new m still e (inr (inl u)) = (u.1.0, u.1.1, inr u.1.2)
+untouched-of told left words c status.Usage old new m still e (inr (inr r)) = absurd r.settles
+untouched-of told left words c (status.Trap kind line) old new m still e h = tt
+untouched-of told left words c status.Spent old new m still e h = tt
+untouched-of told left words c status.SourceFault old new m still e (inl h) = absurd h.2
+untouched-of told left words c status.SourceFault old new m still e (inr (inl u)) = (u.1.0, u.1.1, inr u.1.2)
+untouched-of told left words c status.SourceFault old new m still e (inr (inr r)) = absurd r.settles
+untouched-of told left words c status.InputFault old new m still e h = tt
+untouched-of told left words c status.OutputFault old new m still e h = tt
+untouched-of told left words c status.Memory old new m still e h = tt
+untouched-of told left words c status.Long old new m still e (inl h) = (h.2.1.0, h.2.1.1, inr h.2.1.2)
+untouched-of told left words c status.Long old new m still e (inr (inl u)) = (u.1.0, u.1.1, inr u.1.2)
+untouched-of told left words c status.Long old new m still e (inr (inr r)) = absurd r.settles
 
 pub answer-untouched : {told : Option Told} {left : Option (List ℕ)} {words : List (List ℕ)} {given answer : Status} {old new : Option (List ℕ)}
-    {m : Kept} {still : Type 0} → Answered told left words given answer old new m still → OnTrue (is_refusal answer) (Untouched m old new still)
-answer-untouched {told = told} {left = left} {given = given} {answer = answer} {old = old} {new = new} {m = m} {still = still} a =
-    told-status (λ s. OnTrue (is_refusal s) (Untouched m old new still)) given answer
-    (untouched-of told left a.asked given old new m still a.settles) tt tt a.told_is
+    {m : Kept} {still : Type 0} → Answered told left words given answer old new m still →
+    OnTrue (is_refusal answer) (Untouched m old new (UnlessSchedule (command words) answer still))
+answer-untouched {told = told} {left = left} {words = words} {given = given} {answer = answer} {old = old} {new = new} {m = m} {still = still} a =
+    told-status (λ s. OnTrue (is_refusal s) (Untouched m old new (UnlessSchedule (command words) s still))) given answer
+    (untouched-of told left words a.asked given old new m still a.command_is a.settles) tt tt a.told_is
 
 -- a command is answered no usage
 usage-unread : (told : Option Told) (c : Command) (s : Status) → Unread told c s → s ≢ status.Usage
@@ -275,7 +292,8 @@ usage-unread told c s memory e = cc
 no-usage : (told : Option Told) (left : Option (List ℕ)) (c : Command) (old new : Option (List ℕ)) (m : Kept) (still : Type 0) →
     SettlesCommand told c left status.Usage old new m still → ⊥
 no-usage told left c old new m still (inl h) = h.2
-no-usage told left c old new m still (inr u) = usage-unread told c status.Usage u.0 refl
+no-usage told left c old new m still (inr (inl u)) = usage-unread told c status.Usage u.0 refl
+no-usage told left c old new m still (inr (inr r)) = r.settles
 
 pub answer-usage : {told : Option Told} {left : Option (List ℕ)} {words : List (List ℕ)} {given answer : Status} {old new : Option (List ℕ)}
     {m : Kept} {still : Type 0} → Answered told left words given answer old new m still → Exactly answer status.Usage (command words ≡ None)

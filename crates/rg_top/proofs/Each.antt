@@ -22,11 +22,11 @@ use Rattle.rg_run.specs.Sound.{Stands, NeverAsks}
 use Rattle.rg_alike.specs.Laws.{StandAlike}
 use Rattle.rg_alike.specs.Standing.{RunStands as StandsFor}
 use Rattle.rg_words.specs.declared.status.Status.{Status}
-use Rattle.rg_words.specs.Commands.{Command, run, plain, fmt, check, code, pack, bulk, exec, in_module, origin_of, steps_of}
-use Rattle.rg_commands.specs.Expected.{Meaning, too_long, faulty, spelt, MeansModule}
-use Rattle.rg_commands.specs.CutOff.{Runs, Untouched, CutOffAt, CutAtInput}
+use Rattle.rg_words.specs.Commands.{Command, run, plain, fmt, check, code, pack, bulk, exec, when, in_module, origin_of, steps_of}
+use Rattle.rg_sources.specs.Sources.{Sources, Meaning, too_long, faulty, spelt, planned, MeansModule, Runs}
+use Rattle.rg_sources.proofs.Meaning.{no-program}
+use Rattle.rg_commands.specs.CutOff.{Untouched, CutOffAt, CutAtInput}
 use Rattle.rg_commands.specs.Asked.{Unasked, RunAsks, AsksOver, input_for}
-use Rattle.rg_commands.proofs.Meaning.{no-program}
 use Rattle.rg_words.specs.declared.status.Status.TheVariants as status
 use Rattle.rg_words.specs.Statuses.{is_answer, is_cut_off}
 use Rattle.rg_top.proofs.Answer.{Answered, answer-answered, answer-cut, answer-input}
@@ -44,15 +44,15 @@ same-but_lines alike one bytes t u h k =
 pub each-runs : RaisedAlike → SpellsOneModule → StandAlike → SameAsks → EachRuns
 each-runs alike one stand ask = record {
   alike = λ file source t u h k.
-      let same : SameButLines (program_of t) u = same-but_lines alike one source (program_of t) u h.means k.means in record {
+      let same : SameButLines (program_of t) u = same-but_lines alike one source.file (program_of t) u h.means k.means in record {
         stands = λ input n m s. stand t u same k.accepted input n m s;
         asks = λ input n m old new a. a ∙ ap (λ xs. raised (length xs) old) (ask (program_of t) u same input n m);
       };
-  no_fault = λ file source f u means runs. let h = runs.means in no-program one source f h.1 u means.1 h.2 h.3;
+  no_fault = λ file source f u means runs. let h = runs.means in no-program one source.file f h.1 u means.1 h.2 h.3;
 }
 
 -- a run of each program stands, where one of the module's does
-stands-each : EachRuns → (c : Command) (source input : List ℕ) (n : ℕ) (m : Kept) (t : Tables) →
+stands-each : EachRuns → (c : Command) (source : Sources) (input : List ℕ) (n : ℕ) (m : Kept) (t : Tables) →
     Runs (origin_of c) source (program_of t) → Stands t input n m → StandsForEach c source input n m
 stands-each law (run slides file k every report) source input n m t runs s = tt
 stands-each law (plain file k) source input n m t runs s = tt
@@ -61,6 +61,7 @@ stands-each law (check file) source input n m t runs s = tt
 stands-each law (code file) source input n m t runs s = tt
 stands-each law (pack file) source input n m t runs s = tt
 stands-each law (bulk size) source input n m t runs s = tt
+stands-each law (when file plan) source input n m t runs s = tt
 stands-each law (exec file k every report) source input n m t runs s = λ u each. (law.alike file source t u runs each).stands input n m s
 
 -- the one of two facts that an accepted program has
@@ -69,11 +70,12 @@ accepted-of None accepted refused e h = h
 accepted-of (Some f) accepted refused e h = absurd (cc)
 
 -- what `exec` left of one meaning of its module is left of each program
-left-each : EachRuns → (file : List ℕ) (n every : ℕ) (report : Bool) (source input : List ℕ) (k : Meaning) (m : Kept)
-    (still : Type 0) → MeansModule source k → Leaves (exec file n every report) input k m still → (u : Tree) → Runs (in_module file) source u →
+left-each : EachRuns → (file : List ℕ) (n every : ℕ) (report : Bool) (source : Sources) (input : List ℕ) (k : Meaning) (m : Kept)
+    (still : Type 0) → MeansModule source.file k → Leaves (exec file n every report) input k m still → (u : Tree) → Runs (in_module file) source u →
     StandsFor u input n m
 left-each law file n every report source input too_long m still means left u runs =
     let h = runs.means in absurd (omega (arith, means, h.0))
+left-each law file n every report source input (planned t p) m still means left u runs = absurd means
 left-each law file n every report source input (faulty f) m still means left u runs =
     absurd (law.no_fault file source f u means runs)
 left-each law file n every report source input (spelt t) m still means left u runs =
@@ -84,12 +86,12 @@ left-each law file n every report source input (spelt t) m still means left u ru
     (law.alike file source here.0.0 u one_runs runs).stands input n m here.0.2
 
 -- a fact on the source and the input of a command leads to another
-for-source-map : (told : Option Told) (left : Option (List ℕ)) (words : List (List ℕ)) (P Q : Command → (source input : List ℕ) → Type 0) →
-    ((c : Command) (source input : List ℕ) → P c source input → Q c source input) → ForSource told left words P → ForSource told left words Q
+for-source-map : (told : Option Told) (left : Option (List ℕ)) (words : List (List ℕ)) (P Q : Command → (source : Sources) (input : List ℕ) → Type 0) →
+    ((c : Command) (source : Sources) (input : List ℕ) → P c source input → Q c source input) → ForSource told left words P → ForSource told left words Q
 for-source-map told left words P Q f (c, source, asked, has, (input, is, p)) = (c, source, asked, has, (input, is, f c source input p))
 
 -- what was answered
-each-answer : EachRuns → (c : Command) (source input : List ℕ) (s : Status) (old new : Option (List ℕ)) (m : Kept) (still : Type 0) →
+each-answer : EachRuns → (c : Command) (source : Sources) (input : List ℕ) (s : Status) (old new : Option (List ℕ)) (m : Kept) (still : Type 0) →
     Answers c source input s old new m still → StandsForEach c source input (steps_of c) m
 each-answer law (run slides file n every report) source input s old new m still a = tt
 each-answer law (plain file n) source input s old new m still a = tt
@@ -98,6 +100,7 @@ each-answer law (check file) source input s old new m still a = tt
 each-answer law (code file) source input s old new m still a = tt
 each-answer law (pack file) source input s old new m still a = tt
 each-answer law (bulk size) source input s old new m still a = tt
+each-answer law (when file plan) source input s old new m still a = tt
 each-answer law (exec file n every report) source input s old new m still a =
     λ u runs. left-each law file n every report source input a.meaning m still a.means a.leaves u runs
 
@@ -108,13 +111,13 @@ answered-each : EachRuns → (told : Option Told) (left : Option (List ℕ)) (wo
     Answers c source input s old new m still × StandsForEach c source input (steps_of c) m))
 answered-each law told left words false s old new m still h = tt
 answered-each law told left words true s old new m still h =
-    let P : Command → (source input : List ℕ) → Type 0 = λ c source input. Answers c source input s old new m still in
-    let Q : Command → (source input : List ℕ) → Type 0 = λ c source input.
+    let P : Command → (source : Sources) (input : List ℕ) → Type 0 = λ c source input. Answers c source input s old new m still in
+    let Q : Command → (source : Sources) (input : List ℕ) → Type 0 = λ c source input.
     Answers c source input s old new m still × StandsForEach c source input (steps_of c) m in
     for-source-map told left words P Q (λ c source input a. (a, each-answer law c source input s old new m still a)) h
 
 -- what was cut off
-each-cut : EachRuns → (c : Command) (source input : List ℕ) (m : Kept) (old new : Option (List ℕ)) (still : Type 0) →
+each-cut : EachRuns → (c : Command) (source : Sources) (input : List ℕ) (m : Kept) (old new : Option (List ℕ)) (still : Type 0) →
     CutOffAt c source input m old new still → StandsForEach c source input m.steps m
 each-cut law (run slides file n every report) source input m old new still h = tt
 each-cut law (plain file n) source input m old new still h = tt
@@ -123,6 +126,7 @@ each-cut law (check file) source input m old new still h = tt
 each-cut law (code file) source input m old new still h = tt
 each-cut law (pack file) source input m old new still h = tt
 each-cut law (bulk size) source input m old new still h = tt
+each-cut law (when file plan) source input m old new still h = tt
 each-cut law (exec file n every report) source input m old new still h =
     stands-each law (exec file n every report) source input m.steps m h.0 h.1 h.2.stands
 
@@ -134,12 +138,12 @@ cut-each : EachRuns → (told : Option Told) (left : Option (List ℕ)) (words :
 cut-each law told left words false m old new still h = tt
 cut-each law told left words true m old new still (inl h) = inl h
 cut-each law told left words true m old new still (inr h) =
-    let P : Command → (source input : List ℕ) → Type 0 = λ c source input. CutOffAt c source input m old new still in
-    let Q : Command → (source input : List ℕ) → Type 0 = λ c source input.
+    let P : Command → (source : Sources) (input : List ℕ) → Type 0 = λ c source input. CutOffAt c source input m old new still in
+    let Q : Command → (source : Sources) (input : List ℕ) → Type 0 = λ c source input.
     CutOffAt c source input m old new still × StandsForEach c source input m.steps m in
     inr (for-source-map told left words P Q (λ c source input a. (a, each-cut law c source input m old new still a)) h)
 
-each-input : EachRuns → (c : Command) (source input : List ℕ) (m : Kept) (old new : Option (List ℕ)) → CutAtInput c source input m old new →
+each-input : EachRuns → (c : Command) (source : Sources) (input : List ℕ) (m : Kept) (old new : Option (List ℕ)) → CutAtInput c source input m old new →
     StandsForEach c source input m.steps m
 each-input law (run slides file n every report) source input m old new h = tt
 each-input law (plain file n) source input m old new h = tt
@@ -148,6 +152,7 @@ each-input law (check file) source input m old new h = absurd h
 each-input law (code file) source input m old new h = absurd h
 each-input law (pack file) source input m old new h = absurd h
 each-input law (bulk size) source input m old new h = absurd h
+each-input law (when file plan) source input m old new h = tt
 each-input law (exec file n every report) source input m old new h =
     stands-each law (exec file n every report) source input m.steps m h.0 h.1 h.2
 
@@ -155,13 +160,13 @@ input-each : EachRuns → (told : Option Told) (left : Option (List ℕ)) (words
     ForSource told left words (λ c source input. CutAtInput c source input m old new) →
     ForSource told left words (λ c source input. CutAtInput c source input m old new × StandsForEach c source input m.steps m)
 input-each law told left words m old new h =
-    let P : Command → (source input : List ℕ) → Type 0 = λ c source input. CutAtInput c source input m old new in
-    let Q : Command → (source input : List ℕ) → Type 0 = λ c source input.
+    let P : Command → (source : Sources) (input : List ℕ) → Type 0 = λ c source input. CutAtInput c source input m old new in
+    let Q : Command → (source : Sources) (input : List ℕ) → Type 0 = λ c source input.
     CutAtInput c source input m old new × StandsForEach c source input m.steps m in
     for-source-map told left words P Q (λ c source input a. (a, each-input law c source input m old new a)) h
 
 -- whom it asked
-each-asks : EachRuns → (c : Command) (source input : List ℕ) (m : Kept) (d e t u : ℕ) →
+each-asks : EachRuns → (c : Command) (source : Sources) (input : List ℕ) (m : Kept) (d e t u : ℕ) →
     RunAsks (origin_of c) source (input_for (origin_of c) input) m d e t u → AsksForEach c source input m d e t u
 each-asks law (run slides file n every report) source input m d e t u h = tt
 each-asks law (plain file n) source input m d e t u h = tt
@@ -170,6 +175,7 @@ each-asks law (check file) source input m d e t u h = tt
 each-asks law (code file) source input m d e t u h = tt
 each-asks law (pack file) source input m d e t u h = tt
 each-asks law (bulk size) source input m d e t u h = tt
+each-asks law (when file plan) source input m d e t u h = tt
 each-asks law (exec file n every report) source input m d e t u h =
     λ p runs. let here = law.alike file source h.tables p h.runs runs in record {
       stands = here.stands input m.steps m h.stands;
@@ -183,8 +189,8 @@ pub asked-each : EachRuns → (told : Option Told) (left : Option (List ℕ)) (w
     RunAsks (origin_of c) source (input_for (origin_of c) input) m d e t u × AsksForEach c source input m d e t u)
 asked-each law told left words m d e t u (inl h) = inl h
 asked-each law told left words m d e t u (inr h) =
-    let P : Command → (source input : List ℕ) → Type 0 = λ c source input. RunAsks (origin_of c) source (input_for (origin_of c) input) m d e t u in
-    let Q : Command → (source input : List ℕ) → Type 0 = λ c source input.
+    let P : Command → (source : Sources) (input : List ℕ) → Type 0 = λ c source input. RunAsks (origin_of c) source (input_for (origin_of c) input) m d e t u in
+    let Q : Command → (source : Sources) (input : List ℕ) → Type 0 = λ c source input.
     RunAsks (origin_of c) source (input_for (origin_of c) input) m d e t u × AsksForEach c source input m d e t u in
     inr (for-source-map told left words P Q (λ c source input a. (a, each-asks law c source input m d e t u a)) h)
 

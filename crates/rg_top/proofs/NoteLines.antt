@@ -14,10 +14,11 @@ use Rattle.rg_words.specs.declared.status.Status.TheVariants as status
 use Rattle.rg_words.specs.Commands.{Command, command, reports, may_report, steps_of}
 use Rattle.rg_words.specs.Statuses.{status_text, ends_run}
 use Rattle.rg_top.specs.Headline.{IsBefore, text_behind, TookNotes, ToldFault, steps_asked}
+use Rattle.rg_words.proofs.Written.{untouched-text}
 use Rattle.rg_commands.specs.Settled.{Reported}
-use Rattle.rg_top.specs.Inner.Told.{CutText, Gave, Becomes}
-use Rattle.rg_commands.proofs.Settled.{untouched-text, prefix-behind}
+use Rattle.rg_commands.proofs.Settled.{prefix-behind}
 use Rattle.rg_commands.proofs.Generated.{prefix-more}
+use Rattle.rg_top.specs.Inner.Told.{CutText, Gave, Becomes}
 
 -- what the notes have taken before a status is told are the lines before its text
 record Front (report : Bool) (s : Status) (events : List Event) (old mid : Option (List ℕ)) : Type 0 where

@@ -1,6 +1,6 @@
 -- What the layers under the top call have answered to a source, in the words of the headline.
 use Rattle.std.proofs.Common.{◌≡◌, ℕ, ◌+◌, ◌⊎◌, inl, inr, Bool, true, false, List, [], ◌∷◌, ◌++◌, ◌-◌, Option, Some, None, refl, sym, ◌∙◌, ap, subst}
-use Rattle.std.proofs.Common.{arith, append-nil, append_assoc}
+use Rattle.std.proofs.Common.{arith, length, append-nil, append_assoc}
 use Rattle.std.specs.Bool.{OnTrue}
 use Rattle.rg_base.specs.declared.fault.Fault.{Fault}
 use Rattle.rg_base.specs.declared.limits.TheConstants.{MOST_STEPS}
@@ -21,14 +21,25 @@ use Rattle.rg_run.proofs.Sound.{run-is-sound, stands-shown}
 use Rattle.rg_run.proofs.Run.{run-of, wrote-whole, text-part}
 use Rattle.rg_words.specs.declared.status.Status.{Status}
 use Rattle.rg_words.specs.declared.status.Status.TheVariants as status
-use Rattle.rg_words.specs.Commands.{Command, run, plain, fmt, check, code, pack, bulk, exec, in_file, in_module, origin_of}
+use Rattle.rg_words.specs.Commands.{Command, run, plain, fmt, check, code, pack, bulk, exec, when, in_file, in_module, with_plan, origin_of}
 use Rattle.rg_words.specs.Statuses.{is_answer, is_from_outside}
-use Rattle.rg_commands.specs.Expected.{too_long, faulty, spelt, MeansFrom, status_of, accepted_text, listed_text, packed_text, text_after}
-use Rattle.rg_commands.specs.Expected.{line_behind, run_answer, unless_fault, ExpectsStatus}
-use Rattle.rg_commands.specs.CutOff.{ForInput, Untouched, StandsAfter, AsksAfter, CutOffAt, CutAtInput}
+use Rattle.rg_words.specs.Answers.{Answer, ForInput}
+use Rattle.rg_words.specs.Statuses.{IsBadSchedule}
+use Rattle.rg_words.proofs.Written.{untouched-text}
+use Rattle.rg_sources.specs.Sources.{Sources, planned, too_long, faulty, spelt, MeansFrom}
+use Rattle.rg_when.specs.Scheduled.{schedule_answer, said_answer, Scheduled, SettlesSchedule}
+use Rattle.rg_commands.specs.Expected.{status_of, accepted_text, listed_text, packed_text, text_after, line_behind, run_answer, unless_fault}
+use Rattle.rg_commands.specs.Expected.{ExpectsStatus}
+use Rattle.rg_commands.specs.CutOff.{Untouched, StandsAfter, AsksAfter, CutOffAt, CutAtInput}
+use Rattle.rg_commands.specs.Settled.{RanSchedule, RanWhole, RanBeside, RanGenerated, EndsWell, StopsRun, IsFaulted, CutOff, Settles}
+use Rattle.rg_commands.proofs.Meaning.{plan-needed, said-refused}
+use Rattle.rg_commands.proofs.Settled.{bulk-stands}
 use Rattle.rg_top.specs.Headline.{IfAccepted, RunStands, Answers}
-use Rattle.rg_commands.specs.Settled.{RanWhole, RanBeside, RanGenerated, EndsWell, StopsRun, IsFaulted, CutOff, Settles}
-use Rattle.rg_commands.proofs.Settled.{untouched-text, bulk-stands}
+use Rattle.rg_plan.specs.Plans.{PlanOf}
+use Rattle.rg_schedule.specs.Schedules.{schedule_of}
+use Rattle.rg_io.specs.Files.{Told}
+use Rattle.rg_words.specs.Commands.{is_scheduled}
+use Rattle.rg_words.specs.Statuses.{is_refusal}
 
 -- the source of an input has some bytes
 pub for-input : (left : Option (List ℕ)) (P : List ℕ → Type 0) → ((input : List ℕ) → P input) → ForInput left P
@@ -37,6 +48,10 @@ for-input (Some bytes) P h = (bytes, refl, h bytes)
 
 whole-part : (old new : Option (List ℕ)) (text : List ℕ) → Appends old new text → AppendsPart old new text
 whole-part old new text h = (text, record { rest = []; whole_is = sym (append-nil text) }, h)
+
+-- nothing is a part of any text
+nothing-part : (old new : Option (List ℕ)) (text : List ℕ) → new ≡ old → AppendsPart old new text
+nothing-part old new text e = ([], record { rest = text; whole_is = refl }, untouched-text old new e)
 
 -- what an accepted program answers
 ran-answer : (t : Tree) (input : List ℕ) (n : ℕ) (s : Status) → Accepted t → s ≡ status_of (rules.plain t input n).ending →
@@ -53,7 +68,7 @@ if-refused : (o : Option Fault) (f : Fault) (accepted refused : Type 0) → o �
 if-refused None f accepted refused e h = cc
 if-refused (Some g) f accepted refused e h = h
 
-answers-ran : (slides : Bool) (file : List ℕ) (n every : ℕ) (report : Bool) (source : List ℕ) (left : Option (List ℕ)) (s : Status)
+answers-ran : (slides : Bool) (file : List ℕ) (n every : ℕ) (report : Bool) (source : Sources) (left : Option (List ℕ)) (s : Status)
     (old new : Option (List ℕ)) (m : Kept) (still : Type 0) →
     RanWhole (in_file file) n source left s old new m still → ForInput left
     (λ input. Answers (run slides file n every report) source input s old new m still)
@@ -72,7 +87,7 @@ answers-ran slides file n every report source left s old new m still r =
       },
     )
 
-answers-exec : (file : List ℕ) (n every : ℕ) (report : Bool) (source : List ℕ) (left : Option (List ℕ)) (s : Status)
+answers-exec : (file : List ℕ) (n every : ℕ) (report : Bool) (source : Sources) (left : Option (List ℕ)) (s : Status)
     (old new : Option (List ℕ)) (m : Kept) (still : Type 0) →
     RanWhole (in_module file) n source left s old new m still → ForInput left
     (λ input. Answers (exec file n every report) source input s old new m still)
@@ -91,7 +106,7 @@ answers-exec file n every report source left s old new m still r =
       },
     )
 
-answers-beside : (file : List ℕ) (n : ℕ) (source : List ℕ) (left : Option (List ℕ)) (s : Status) (old new : Option (List ℕ)) (m : Kept)
+answers-beside : (file : List ℕ) (n : ℕ) (source : Sources) (left : Option (List ℕ)) (s : Status) (old new : Option (List ℕ)) (m : Kept)
     (still : Type 0) →
     RanBeside file n source left s old new m still → ForInput left (λ input. Answers (plain file n) source input s old new m still)
 answers-beside file n source left s old new m still r = (
@@ -111,7 +126,7 @@ answers-beside file n source left s old new m still r = (
   },
 )
 
-answers-generated : (size : ℕ) (source : List ℕ) (left : Option (List ℕ)) (s : Status) (old new : Option (List ℕ)) (m : Kept) (still : Type 0) →
+answers-generated : (size : ℕ) (source : Sources) (left : Option (List ℕ)) (s : Status) (old new : Option (List ℕ)) (m : Kept) (still : Type 0) →
     RanGenerated size source s old new m → ForInput left (λ input. Answers (bulk size) source input s old new m still)
 answers-generated size source left s old new m still r =
     let t = program_of r.tables in
@@ -124,7 +139,7 @@ answers-generated size source left s old new m still r =
       leaves = (r.tables, refl, r.stands);
     })
 
-answers-well : (c : Command) (source : List ℕ) (left old new : Option (List ℕ)) (m : Kept) (still : Type 0) → EndsWell c source left old new m still →
+answers-well : (c : Command) (source : Sources) (left old new : Option (List ℕ)) (m : Kept) (still : Type 0) → EndsWell c source left old new m still →
     ForInput left (λ input. Answers c source input status.Done old new m still)
 answers-well (run slides file n every report) source left old new m still r =
     answers-ran slides file n every report source left status.Done old new m still r
@@ -168,8 +183,9 @@ answers-well (pack file) source left old new m still r =
 answers-well (bulk size) source left old new m still r = answers-generated size source left status.Done old new m still r
 answers-well (exec file n every report) source left old new m still r =
     answers-exec file n every report source left status.Done old new m still r
+answers-well (when file plan) source left old new m still r = absurd r
 
-answers-stops : (c : Command) (source : List ℕ) (left : Option (List ℕ)) (s : Status) (old new : Option (List ℕ)) (m : Kept) (still : Type 0) →
+answers-stops : (c : Command) (source : Sources) (left : Option (List ℕ)) (s : Status) (old new : Option (List ℕ)) (m : Kept) (still : Type 0) →
     StopsRun c source left s old new m still → ForInput left (λ input. Answers c source input s old new m still)
 answers-stops (run slides file n every report) source left s old new m still r =
     answers-ran slides file n every report source left s old new m still r
@@ -180,9 +196,10 @@ answers-stops (code file) source left s old new m still r = absurd r
 answers-stops (pack file) source left s old new m still r = absurd r
 answers-stops (bulk size) source left s old new m still r = answers-generated size source left s old new m still r
 answers-stops (exec file n every report) source left s old new m still r = answers-exec file n every report source left s old new m still r
+answers-stops (when file plan) source left s old new m still r = absurd r
 
 -- a source with a fault is refused
-answers-refused : (c : Command) (source input : List ℕ) (f : Fault) (old new : Option (List ℕ)) (m : Kept) (still : Type 0) →
+answers-refused : (c : Command) (source : Sources) (input : List ℕ) (f : Fault) (old new : Option (List ℕ)) (m : Kept) (still : Type 0) →
     Untouched m old new still → MeansFrom (origin_of c) source (faulty f) ⊎ IsFaulted c source f →
     Answers c source input (status.Refused f) old new m still
 answers-refused c source input f old new m still u (inl h) = record {
@@ -236,9 +253,10 @@ answers-refused (pack file) source input f old new m still u (inr h) = record {
 }
 answers-refused (bulk size) source input f old new m still u (inr h) = absurd h
 answers-refused (exec file n every report) source input f old new m still u (inr h) = absurd h
+answers-refused (when file plan) source input f old new m still u (inr h) = absurd h
 
 -- what was answered, where nothing cut it off
-pub answers-of : (c : Command) (source : List ℕ) (left : Option (List ℕ)) (s : Status) (old new : Option (List ℕ)) (m : Kept) (still : Type 0) →
+pub answers-of : (c : Command) (source : Sources) (left : Option (List ℕ)) (s : Status) (old new : Option (List ℕ)) (m : Kept) (still : Type 0) →
     Settles c source left s old new m still → OnTrue (is_answer s) (ForInput left (λ input. Answers c source input s old new m still))
 answers-of c source left status.Done old new m still h = answers-well c source left old new m still h
 answers-of c source left (status.Refused f) old new m still h = for-input left _ (λ input. answers-refused c source input f old new m still h.1 h.0)
@@ -277,21 +295,21 @@ stands-whole t input n m old new accepted shown wrote =
       wrote = wrote-whole t input r.0 old new (subst Q (ap (λ s. text s.output) (sym r.1.state)) wrote);
     })
 
-cut-exec : (file : List ℕ) (n every : ℕ) (report : Bool) (source : List ℕ) (left : Option (List ℕ)) (s : Status)
+cut-exec : (file : List ℕ) (n every : ℕ) (report : Bool) (source : Sources) (left : Option (List ℕ)) (s : Status)
     (old new : Option (List ℕ)) (m : Kept) (still : Type 0) →
     RanWhole (in_module file) n source left s old new m still → ForInput left
     (λ input. CutOffAt (exec file n every report) source input m old new still)
 cut-exec file n every report source left s old new m still r =
     (r.input, r.input_is, (r.tables, r.runs, stands-whole r.tables r.input n m old new r.runs.accepted r.stands r.wrote, r.unread))
 
-cut-ran : (slides : Bool) (file : List ℕ) (n every : ℕ) (report : Bool) (source : List ℕ) (left : Option (List ℕ)) (s : Status)
+cut-ran : (slides : Bool) (file : List ℕ) (n every : ℕ) (report : Bool) (source : Sources) (left : Option (List ℕ)) (s : Status)
     (old new : Option (List ℕ)) (m : Kept) (still : Type 0) →
     RanWhole (in_file file) n source left s old new m still → ForInput left
     (λ input. CutOffAt (run slides file n every report) source input m old new still)
 cut-ran slides file n every report source left s old new m still r =
     (r.input, r.input_is, (r.tables, r.runs, stands-whole r.tables r.input n m old new r.runs.accepted r.stands r.wrote, r.unread))
 
-cut-beside : (file : List ℕ) (n : ℕ) (source : List ℕ) (left : Option (List ℕ)) (s : Status) (old new : Option (List ℕ)) (m : Kept) (still : Type 0) →
+cut-beside : (file : List ℕ) (n : ℕ) (source : Sources) (left : Option (List ℕ)) (s : Status) (old new : Option (List ℕ)) (m : Kept) (still : Type 0) →
     RanBeside file n source left s old new m still → ForInput left (λ input. CutOffAt (plain file n) source input m old new still)
 cut-beside file n source left s old new m still r = (
   r.input,
@@ -303,12 +321,12 @@ cut-beside file n source left s old new m still r = (
 all-prefix : (xs : List ℕ) → IsPrefix xs xs
 all-prefix xs = record { rest = []; whole_is = sym (append-nil xs) }
 
-cut-generated : (size : ℕ) (source : List ℕ) (s : Status) (old new : Option (List ℕ)) (m : Kept) (input : List ℕ) (still : Type 0) →
+cut-generated : (size : ℕ) (source : Sources) (s : Status) (old new : Option (List ℕ)) (m : Kept) (input : List ℕ) (still : Type 0) →
     RanGenerated size source s old new m → CutOffAt (bulk size) source input m old new still
 cut-generated size source s old new m input still r =
     (r.tables, r.runs, bulk-stands size r.tables MOST_STEPS m _ old new r.runs.accepted r.stands (all-prefix _) r.wrote)
 
-cut-well : (c : Command) (source : List ℕ) (left old new : Option (List ℕ)) (m : Kept) (still : Type 0) → EndsWell c source left old new m still →
+cut-well : (c : Command) (source : Sources) (left old new : Option (List ℕ)) (m : Kept) (still : Type 0) → EndsWell c source left old new m still →
     CutOff c source left old new m still
 cut-well (run slides file n every report) source left old new m still r =
     cut-ran slides file n every report source left status.Done old new m still r
@@ -319,8 +337,9 @@ cut-well (code file) source left old new m still r = (r.tree, r.runs, r.fresh, w
 cut-well (pack file) source left old new m still r = (r.tree, r.runs, r.fresh, whole-part old new _ r.wrote)
 cut-well (bulk size) source left old new m still r = cut-generated size source status.Done old new m [] still r
 cut-well (exec file n every report) source left old new m still r = cut-exec file n every report source left status.Done old new m still r
+cut-well (when file plan) source left old new m still r = absurd r
 
-cut-stops : (c : Command) (source : List ℕ) (left : Option (List ℕ)) (s : Status) (old new : Option (List ℕ)) (m : Kept) (still : Type 0) →
+cut-stops : (c : Command) (source : Sources) (left : Option (List ℕ)) (s : Status) (old new : Option (List ℕ)) (m : Kept) (still : Type 0) →
     StopsRun c source left s old new m still → CutOff c source left old new m still
 cut-stops (run slides file n every report) source left s old new m still r =
     cut-ran slides file n every report source left s old new m still r
@@ -331,6 +350,7 @@ cut-stops (code file) source left s old new m still r = absurd r
 cut-stops (pack file) source left s old new m still r = absurd r
 cut-stops (bulk size) source left s old new m still r = cut-generated size source s old new m [] still r
 cut-stops (exec file n every report) source left s old new m still r = cut-exec file n every report source left s old new m still r
+cut-stops (when file plan) source left s old new m still r = absurd r
 
 no_lie : true ≡ false → ⊥
 no_lie e = cc
@@ -341,7 +361,7 @@ asked : (t : Tree) (input : List ℕ) (n k : ℕ) (old new : Option (List ℕ)) 
 asked t input n k old new still asks none = absurd (no_lie (sym asks.asks ∙ none k asks.before))
 
 -- a run that was cut off by the input stands at a whole step
-cut-input : (c : Command) (source : List ℕ) (left old new : Option (List ℕ)) (m : Kept) (still : Type 0) →
+cut-input : (c : Command) (source : Sources) (left old new : Option (List ℕ)) (m : Kept) (still : Type 0) →
     ForInput left (λ input. CutAtInput c source input m old new) → CutOff c source left old new m still
 cut-input (run slides file n every report) source left old new m still h =
     let t = h.2.0 in
@@ -396,8 +416,9 @@ cut-input (exec file n every report) source left old new m still h =
         asked (program_of t) h.0 n m.steps old new still asks,
       ),
     )
+cut-input (when file plan) source left old new m still h = (h.0, h.1, (h.2.0, h.2.1, h.2.2, h.2.3, nothing-part old new _ h.2.4))
 
-cut-at : (c : Command) (source : List ℕ) (left old new : Option (List ℕ)) (m : Kept) (still : Type 0) → CutOff c source left old new m still →
+cut-at : (c : Command) (source : Sources) (left old new : Option (List ℕ)) (m : Kept) (still : Type 0) → CutOff c source left old new m still →
     ForInput left (λ input. CutOffAt c source input m old new still)
 cut-at (run slides file n every report) source left old new m still h = h
 cut-at (plain file n) source left old new m still h = h
@@ -407,15 +428,16 @@ cut-at (code file) source left old new m still h = for-input left _ (λ input. h
 cut-at (pack file) source left old new m still h = for-input left _ (λ input. h)
 cut-at (bulk size) source left old new m still h = for-input left _ (λ input. h)
 cut-at (exec file n every report) source left old new m still h = h
+cut-at (when file plan) source left old new m still h = h
 
-untouched-or : (c : Command) (source : List ℕ) (left old new : Option (List ℕ)) (m : Kept) (still : Type 0) →
+untouched-or : (c : Command) (source : Sources) (left old new : Option (List ℕ)) (m : Kept) (still : Type 0) →
     Untouched m old new still ⊎ CutOff c source left old new m still →
     Untouched m old new still ⊎ ForInput left (λ input. CutOffAt c source input m old new still)
 untouched-or c source left old new m still (inl u) = inl u
 untouched-or c source left old new m still (inr h) = inr (cut-at c source left old new m still h)
 
 -- whatever was answered, the machine is fresh or stands at a whole step
-pub cut-of : (c : Command) (source : List ℕ) (left : Option (List ℕ)) (s : Status) (old new : Option (List ℕ)) (m : Kept) (still : Type 0) →
+pub cut-of : (c : Command) (source : Sources) (left : Option (List ℕ)) (s : Status) (old new : Option (List ℕ)) (m : Kept) (still : Type 0) →
     Settles c source left s old new m still → Untouched m old new still ⊎ ForInput left (λ input. CutOffAt c source input m old new still)
 cut-of c source left status.Done old new m still h = inr (cut-at c source left old new m still (cut-well c source left old new m still h))
 cut-of c source left (status.Refused f) old new m still h = inl h.1
@@ -431,7 +453,7 @@ cut-of c source left status.Memory old new m still h = untouched-or c source lef
 cut-of c source left status.Long old new m still h = inl h.1
 
 -- what is expected where nothing was cut off
-pub status-of : (c : Command) (source : List ℕ) (left : Option (List ℕ)) (s : Status) (old new : Option (List ℕ)) (m : Kept) (still : Type 0) →
+pub status-of : (c : Command) (source : Sources) (left : Option (List ℕ)) (s : Status) (old new : Option (List ℕ)) (m : Kept) (still : Type 0) →
     Settles c source left s old new m still → ForInput left (λ input. ExpectsStatus c source input s) ⊎ (is_from_outside s ≡ true)
 status-of c source left s old new m still h = go s h (answers-of c source left s old new m still h)
   where
@@ -452,3 +474,128 @@ status-of c source left s old new m still h = go s h (answers-of c source left s
     go status.OutputFault h a = inr refl
     go status.Memory h a = inr refl
     go status.Long h a = inl (expects status.Long a)
+
+-- what was answered to a schedule
+module _ (told : Option Told) (c : Command) (left : Option (List ℕ)) (s : Status) (old new : Option (List ℕ)) (m : Kept) (still : Type 0)
+    (r : RanSchedule told c left s old new m) where
+  schedule-answers : Scheduled r.tree r.plan left s old new → ForInput left (λ input. Answers c r.source input s old new m still)
+  schedule-answers h = (
+    h.0,
+    h.1,
+    record {
+      meaning = planned r.tree r.plan;
+      means = r.means;
+      text = h.2.0;
+      expects = h.2.1;
+      wrote = h.2.2;
+      leaves = r.fresh;
+    },
+  )
+
+-- a schedule's plan is meant to `when`
+cut-planned : (c : Command) (source : Sources) (t : Tree) (p : PlanOf) (input : List ℕ) (m : Kept) (old new : Option (List ℕ)) (still : Type 0) →
+    MeansFrom (origin_of c) source (planned t p) → IsFresh m → AppendsPart old new (schedule_answer t p input).text →
+    CutOffAt c source input m old new still
+cut-planned (run slides file n every report) source t p input m old new still h fresh part = absurd h
+cut-planned (plain file n) source t p input m old new still h fresh part = absurd h
+cut-planned (fmt file) source t p input m old new still h fresh part = absurd h
+cut-planned (check file) source t p input m old new still h fresh part = absurd h
+cut-planned (code file) source t p input m old new still h fresh part = absurd h
+cut-planned (pack file) source t p input m old new still h fresh part = absurd h
+cut-planned (bulk size) source t p input m old new still h fresh part = let lie : planned t p ≡ spelt _ = h in absurd (cc)
+cut-planned (exec file n every report) source t p input m old new still h fresh part = absurd h
+cut-planned (when file plan) source t p input m old new still h fresh part = (t, p, h, fresh, part)
+
+input-planned : (c : Command) (source : Sources) (t : Tree) (p : PlanOf) (input : List ℕ) (m : Kept) (old new : Option (List ℕ)) →
+    MeansFrom (origin_of c) source (planned t p) → IsFresh m → new ≡ old → CutAtInput c source input m old new
+input-planned (run slides file n every report) source t p input m old new h fresh silent = absurd h
+input-planned (plain file n) source t p input m old new h fresh silent = absurd h
+input-planned (fmt file) source t p input m old new h fresh silent = absurd h
+input-planned (check file) source t p input m old new h fresh silent = absurd h
+input-planned (code file) source t p input m old new h fresh silent = absurd h
+input-planned (pack file) source t p input m old new h fresh silent = absurd h
+input-planned (bulk size) source t p input m old new h fresh silent = let lie : planned t p ≡ spelt _ = h in absurd (cc)
+input-planned (exec file n every report) source t p input m old new h fresh silent = absurd h
+input-planned (when file plan) source t p input m old new h fresh silent = (t, p, h, fresh, silent)
+
+pub schedule-of : (told : Option Told) (c : Command) (left : Option (List ℕ)) (s : Status) (old new : Option (List ℕ)) (m : Kept) (still : Type 0)
+    (r : RanSchedule told c left s old new m) → OnTrue (is_answer s) (ForInput left (λ input. Answers c r.source input s old new m still))
+schedule-of told c left status.Done old new m still r = schedule-answers told c left status.Done old new m still r r.settles
+schedule-of told c left (status.Refused f) old new m still r = schedule-answers told c left (status.Refused f) old new m still r r.settles
+schedule-of told c left status.Usage old new m still r = tt
+schedule-of told c left (status.Trap kind line) old new m still r = absurd r.settles
+schedule-of told c left status.Spent old new m still r = schedule-answers told c left status.Spent old new m still r r.settles
+schedule-of told c left status.SourceFault old new m still r = tt
+schedule-of told c left status.InputFault old new m still r = tt
+schedule-of told c left status.OutputFault old new m still r = tt
+schedule-of told c left status.Memory old new m still r = tt
+schedule-of told c left status.Long old new m still r = absurd r.settles
+
+-- of its text a part was written, all of it or nothing
+pub schedule-cut : (told : Option Told) (c : Command) (left : Option (List ℕ)) (s : Status) (old new : Option (List ℕ)) (m : Kept) (still : Type 0)
+    (r : RanSchedule told c left s old new m) → ForInput left (λ input. CutOffAt c r.source input m old new still)
+schedule-cut told c left s old new m still r =
+    let part = go s r.settles in (part.0, part.1, cut-planned c r.source r.tree r.plan part.0 m old new still r.means r.fresh part.2)
+  where
+    Part : Type 0
+    Part = ForInput left (λ input. AppendsPart old new (schedule_answer r.tree r.plan input).text)
+
+    whole : (s : Status) → Scheduled r.tree r.plan left s old new → Part
+    whole s h =
+        let P : List ℕ → Type 0 = λ q. AppendsPart old new q in
+        (h.0, h.1, subst P (sym (ap (λ (a : Answer). a.text) h.2.1)) (whole-part old new h.2.0 h.2.2))
+
+    go : (s : Status) → SettlesSchedule r.tree r.plan left s old new → Part
+    go status.Done h = whole status.Done h
+    go (status.Refused f) h = whole (status.Refused f) h
+    go status.Usage h = absurd h
+    go (status.Trap kind line) h = absurd h
+    go status.Spent h = whole status.Spent h
+    go status.SourceFault h = absurd h
+    go status.InputFault h = for-input left _ (λ input. nothing-part old new _ h)
+    go status.OutputFault h = h
+    go status.Memory h = h
+    go status.Long h = absurd h
+
+pub schedule-input : (told : Option Told) (c : Command) (left : Option (List ℕ)) (old new : Option (List ℕ)) (m : Kept)
+    (r : RanSchedule told c left status.InputFault old new m) → ForInput left (λ input. CutAtInput c r.source input m old new)
+schedule-input told c left old new m r =
+    for-input left _ (λ input. input-planned c r.source r.tree r.plan input m old new r.means r.fresh r.settles)
+
+-- what is expected, where nothing was cut off
+pub schedule-status : (told : Option Told) (c : Command) (left : Option (List ℕ)) (s : Status) (old new : Option (List ℕ)) (m : Kept)
+    (r : RanSchedule told c left s old new m) → ForInput left (λ input. ExpectsStatus c r.source input s) ⊎ (is_from_outside s ≡ true)
+schedule-status told c left s old new m r = go s r.settles (schedule-of told c left s old new m (Unit {0}) r)
+  where
+    expects : (s : Status) → ForInput left (λ input. Answers c r.source input s old new m (Unit {0})) →
+        ForInput left (λ input. ExpectsStatus c r.source input s)
+    expects s (input, is, a) = (input, is, (numbers_of m, a.text, (a.meaning, a.means, a.expects)))
+
+    go : (s : Status) → SettlesSchedule r.tree r.plan left s old new →
+        OnTrue (is_answer s) (ForInput left (λ input. Answers c r.source input s old new m (Unit {0}))) →
+        ForInput left (λ input. ExpectsStatus c r.source input s) ⊎ (is_from_outside s ≡ true)
+    go status.Done h a = inl (expects status.Done a)
+    go (status.Refused f) h a = inl (expects (status.Refused f) a)
+    go status.Usage h a = absurd h
+    go (status.Trap kind line) h a = absurd h
+    go status.Spent h a = inl (expects status.Spent a)
+    go status.SourceFault h a = inr refl
+    go status.InputFault h a = inr refl
+    go status.OutputFault h a = inr refl
+    go status.Memory h a = inr refl
+    go status.Long h a = absurd h
+
+-- a schedule that is refused has written nothing
+pub schedule-refused : (told : Option Told) (c : Command) (left : Option (List ℕ)) (f : Fault) (old new : Option (List ℕ)) (m : Kept)
+    (r : RanSchedule told c left (status.Refused f) old new m) → (is_scheduled c ≡ true) × ((IsBadSchedule (status.Refused f)) × (new ≡ old))
+schedule-refused told c left f old new m r =
+    let said = schedule_of (length r.plan.behaviours) r.settles.0 in
+    let bad = said-refused r.tree r.plan said (status.Refused f) r.settles.2.0 refl r.settles.2.1 in (
+      plan-needed c r.source r.tree r.plan r.means,
+      bad.0,
+      silent old new r.settles.2.0 bad.1 r.settles.2.2,
+    )
+  where
+    silent : (old new : Option (List ℕ)) (text : List ℕ) → text ≡ [] → Appends old new text → new ≡ old
+    silent None new text none h = h
+    silent (Some xs) new text none h = h ∙ ap (λ q. Some (xs ++ q)) none ∙ ap Some (append-nil xs)

@@ -17,16 +17,18 @@ use Rattle.rg_run.specs.Reports.{event_lines, AreCutLines}
 use Rattle.rg_run.specs.Sound.{IsSound, Stands, NeverAsks}
 use Rattle.rg_words.specs.declared.status.Status.{Status}
 use Rattle.rg_words.specs.declared.status.Status.TheVariants as status
-use Rattle.rg_words.specs.Commands.{Command, run, plain, fmt, check, code, pack, bulk, exec, command, generated, origin_of, steps_of}
-use Rattle.rg_words.specs.Statuses.{status_text, is_from_outside}
-use Rattle.rg_commands.specs.Expected.{Meaning, too_long, faulty, spelt, HasSource, MeansFrom, expected, ExpectsStatus}
-use Rattle.rg_commands.specs.CutOff.{HasInput, ForInput}
+use Rattle.rg_words.specs.Commands.{Command, run, plain, fmt, check, code, pack, bulk, exec, when, command, generated, origin_of, steps_of}
+use Rattle.rg_words.specs.Commands.{may_schedule}
+use Rattle.rg_words.specs.Statuses.{status_text, is_from_outside, IsBadSchedule}
+use Rattle.rg_words.specs.Answers.{HasInput, ForInput}
+use Rattle.rg_sources.specs.Sources.{Sources, Meaning, too_long, faulty, spelt, planned, HasSource, MeansFrom}
+use Rattle.rg_commands.specs.Expected.{expected, ExpectsStatus}
 
 -- a fact on the command that the words give, on a source that its program has, and on the input: a file's bytes, where files
 -- tell them, else some bytes
-abbrev pub ForSource : Option Told → (left : Option (List ℕ)) → (words : List (List ℕ)) → (Command → (source input : List ℕ) → Type 0) → Type 0
+abbrev pub ForSource : Option Told → (left : Option (List ℕ)) → (words : List (List ℕ)) → (Command → (source : Sources) (input : List ℕ) → Type 0) → Type 0
 ForSource told left words P =
-    (c : Command) × (source : List ℕ) × (command words ≡ Some c) × HasSource told (origin_of c) source × ForInput left (P c source)
+    (c : Command) × (source : Sources) × (command words ≡ Some c) × HasSource told (origin_of c) source × ForInput left (P c source)
 
 -- the one fact, where the checker has no fault, else the other
 abbrev pub IfAccepted : Option Fault → (accepted refused : Type 0) → Type 0
@@ -39,10 +41,12 @@ RunStands t input n m = (tables : Tables) × (program_of tables ≡ t) × Stands
 
 -- What a command leaves beside its text, for a source of that meaning. A run of an accepted program stands on the machine behind
 -- all its steps, that of a generated one on an empty input; `plain` runs it elsewhere, and its run is sound too; where none of
--- these steps asks for the input, it is still as it was. What `fmt` has written parses back into the tree.
+-- these steps asks for the input, it is still as it was. What `fmt` has written parses back into the tree. The behaviours of `when` run on machines of
+-- their own.
 abbrev pub Leaves : Command → (input : List ℕ) → Meaning → Kept → (still : Type 0) → Type 0
 Leaves c input too_long m still = IsFresh m × still
 Leaves c input (faulty f) m still = IsFresh m × still
+Leaves c input (planned t p) m still = IsFresh m
 Leaves (run slides file n every report) input (spelt t) m still =
     IfAccepted (first_fault t) (RunStands t input n m × (NeverAsks t input n → still)) (IsFresh m × still)
 Leaves (plain file n) input (spelt t) m still =
@@ -54,17 +58,22 @@ Leaves (pack file) input (spelt t) m still = IsFresh m
 Leaves (bulk size) input (spelt t) m still = RunStands t [] MOST_STEPS m
 Leaves (exec file n every report) input (spelt t) m still =
     IfAccepted (first_fault t) (RunStands t input n m × (NeverAsks t input n → still)) (IsFresh m × still)
+Leaves (when file plan) input (spelt t) m still = IsFresh m
 
 -- A command has answered this status to one source and one input: the source means something, of which this status and this
 -- text are expected; the output has taken that text and nothing else; and the rest is left as it must be for that meaning.
 -- `still` says that the input is as it was before the call.
-pub record Answers (c : Command) (source input : List ℕ) (s : Status) (old new : Option (List ℕ)) (m : Kept) (still : Type 0) : Type 0 where
+pub record Answers (c : Command) (source : Sources) (input : List ℕ) (s : Status) (old new : Option (List ℕ)) (m : Kept) (still : Type 0) : Type 0 where
   pub meaning : Meaning
   pub means : MeansFrom (origin_of c) source meaning
   pub text : List ℕ
   pub expects : expected c (numbers_of m) input meaning ≡ record { status = s; text = text }
   pub wrote : Appends old new text
   pub leaves : Leaves c input meaning m still
+
+-- a refusal leaves the input as it was, but where it is that of a schedule
+abbrev pub UnlessSchedule : Option Command → Status → (still : Type 0) → Type 0
+UnlessSchedule o s still = ((may_schedule o ≡ true) × IsBadSchedule s) ⊎ still
 
 -- the steps that the words ask for
 abbrev pub steps_asked : Option Command → ℕ
@@ -161,5 +170,5 @@ Exactly answer s P = (answer ≡ s → P) × (P → (answer ≡ s) ⊎ (is_from_
 pub record ExactlyWhere (told : Option Told) (left : Option (List ℕ)) (words : List (List ℕ)) (answer s : Status) : Type 0 where
   pub only : answer ≡ s → IsExpected told left words s
   pub always : (c : Command) → command words ≡ Some c →
-      ((source input : List ℕ) → HasSource told (origin_of c) source → HasInput left input → ExpectsStatus c source input s) →
+      ((source : Sources) (input : List ℕ) → HasSource told (origin_of c) source → HasInput left input → ExpectsStatus c source input s) →
       (answer ≡ s) ⊎ (is_from_outside answer ≡ true)

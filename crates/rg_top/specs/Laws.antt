@@ -9,8 +9,7 @@ use Rattle.rg_run.specs.Machine.{Kept}
 use Rattle.rg_run.specs.Sound.{Stands}
 use Rattle.rg_alike.specs.Standing.{RunStands}
 use Rattle.rg_words.specs.Commands.{in_module}
-use Rattle.rg_commands.specs.CutOff.{Runs}
-use Rattle.rg_commands.specs.Expected.{MeansModule, faulty}
+use Rattle.rg_sources.specs.Sources.{Sources, Runs, MeansModule, faulty}
 use Rattle.rg_commands.specs.Asked.{AsksOver}
 
 -- where a run of one of two programs stands on a machine, and has asked the pacers, so does a run of the other
@@ -20,6 +19,6 @@ pub record RunsAlike (t : Tables) (u : Tree) : Type 0 where
 
 -- So it is of any two programs that raise the module of the same bytes, and such bytes have no fault.
 pub record EachRuns : Type 0 where
-  pub alike : (file source : List ℕ) (t : Tables) (u : Tree) → Runs (in_module file) source (program_of t) → Runs (in_module file) source u →
+  pub alike : (file : List ℕ) (source : Sources) (t : Tables) (u : Tree) → Runs (in_module file) source (program_of t) → Runs (in_module file) source u →
       RunsAlike t u
-  pub no_fault : (file source : List ℕ) (f : Fault) (u : Tree) → MeansModule source (faulty f) → Runs (in_module file) source u → ⊥
+  pub no_fault : (file : List ℕ) (source : Sources) (f : Fault) (u : Tree) → MeansModule source.file (faulty f) → Runs (in_module file) source u → ⊥

@@ -28,7 +28,7 @@ pub(crate) const USAGE: &[u8] =
     b"usage: reggio run FILE [--steps N] [--every N] [--report]; check FILE; fmt FILE; \
     code FILE; plain FILE [--steps N]; bulk N; \
     slide FILE [--steps N] [--every N] [--report]; pack FILE; \
-    exec FILE [--steps N] [--every N] [--report]\n";
+    exec FILE [--steps N] [--every N] [--report]; when FILE PLAN\n";
 
 /// The words of a trap.
 fn trap_words(kind: Trap) -> &'static [u8]

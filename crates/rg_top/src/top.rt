@@ -13,14 +13,14 @@ ghost use Rattle.rg_run.specs.Sound.{Stands};
 ghost use Rattle.rg_run.specs.Machine.{IsFresh};
 ghost use Rattle.rg_words.specs.Commands.{Command, command, texts, origin_of, steps_of, may_open};
 ghost use Rattle.rg_words.specs.Commands.{may_read, every_of, runs_on, is_slide, reports};
-ghost use Rattle.rg_words.specs.Commands.{may_report};
+ghost use Rattle.rg_words.specs.Commands.{may_report, may_schedule};
 ghost use Rattle.rg_words.specs.Requests.{command_for};
-ghost use Rattle.rg_words.specs.Statuses.{is_answer, is_refusal, is_cut_off};
+ghost use Rattle.rg_words.specs.Statuses.{is_answer, is_refusal, is_cut_off, IsBadSchedule};
 ghost use Rattle.rg_commands.specs.Expected.{ExpectsStatus};
-ghost use Rattle.rg_top.specs.Headline.{ForSource, Exactly, ExactlyWhere, Answers, TookNotes};
-ghost use Rattle.rg_top.specs.Headline.{ToldFault, MayTell, steps_asked};
-ghost use Rattle.rg_top.specs.Each.{StandsForEach, AsksForEach};
 ghost use Rattle.rg_commands.specs.CutOff.{Untouched, CutOffAt, CutAtInput};
+ghost use Rattle.rg_top.specs.Headline.{ForSource, Exactly, ExactlyWhere, Answers, TookNotes};
+ghost use Rattle.rg_top.specs.Headline.{ToldFault, MayTell, steps_asked, UnlessSchedule};
+ghost use Rattle.rg_top.specs.Each.{StandsForEach, AsksForEach};
 ghost use Rattle.rg_commands.specs.Asked.{Unasked, RunAsks, SayYes, input_for};
 
 use crate::laws::each_runs;
@@ -30,7 +30,7 @@ use rg_commands::{Setting, answers_are_one};
 use rg_io::{Files, Sink, Source};
 use rg_pace::Pacer;
 use rg_run::Machine;
-use rg_words::{Request, Status, Task, command};
+use rg_words::{MOST_NUMBERS, Request, Status, Task, command};
 use std::alloc::Global;
 
 /// The number of steps that are asked for.
@@ -39,6 +39,7 @@ fn steps_of(task: Task<'_>) -> u64
 {
     match task {
         Task::OfModule { options, .. } => options.steps,
+        Task::OfPlan { .. } => MOST_NUMBERS,
         Task::OfProgram(Request::Run { options, .. }) => options.steps,
         Task::OfProgram(Request::Plain { steps, .. }) => steps,
         Task::OfProgram(Request::Format { .. } | Request::Check { .. }) => 0,
@@ -53,6 +54,7 @@ fn reports(task: Task<'_>) -> bool
 {
     match task {
         Task::OfModule { options, .. } => options.report,
+        Task::OfPlan { .. } => false,
         Task::OfProgram(Request::Run { options, .. }) => options.report,
         Task::OfProgram(Request::Plain { .. } | Request::Format { .. }) => false,
         Task::OfProgram(Request::Check { .. } | Request::Code { .. }) => false,
@@ -87,7 +89,8 @@ pub fn reggio<F: Files, I: Source, O: Sink, R: Sink>(
         Answers c source bytes result (O.taken out.old) (O.taken out.new) machine.new
         (input.new ≡ input.old) × StandsForEach c source bytes (steps_of c) machine.new)) }
     ensures untouched { OnTrue (is_refusal result)
-        (Untouched machine.new (O.taken out.old) (O.taken out.new) (input.new ≡ input.old)) }
+        (Untouched machine.new (O.taken out.old) (O.taken out.new)
+        (UnlessSchedule (command (texts words.now)) result (input.new ≡ input.old))) }
     ensures cut_off { OnTrue (is_cut_off result)
         (Untouched machine.new (O.taken out.old) (O.taken out.new) (input.new ≡ input.old)
         ⊎ ForSource (F.told files.old) (I.left input.old) (texts words.now)
@@ -108,7 +111,7 @@ pub fn reggio<F: Files, I: Source, O: Sink, R: Sink>(
         ((tally count.new).tuned ≡ every_of c) × ((tally trace.new).tuned ≡ every_of c) }
     ensures slides { (c : Command) → command (texts words.now) ≡ Some c →
         ¬ IsFresh machine.new → machine.new.stepper.slides ≡ is_slide c }
-    ensures asked { Unasked machine.new
+    ensures asked { may_schedule (command (texts words.now)) ≡ false → Unasked machine.new
         (tally count.old).asks (tally count.new).asks (tally trace.old).asks (tally trace.new).asks
         ⊎ ForSource (F.told files.old) (I.left input.old) (texts words.now)
         (λ c source bytes. RunAsks (origin_of c) source (input_for (origin_of c) bytes) machine.new
@@ -117,7 +120,7 @@ pub fn reggio<F: Files, I: Source, O: Sink, R: Sink>(
         × AsksForEach c source bytes machine.new
         (tally count.old).asks (tally count.new).asks
         (tally trace.old).asks (tally trace.new).asks) }
-    ensures yeses { SayYes machine.new
+    ensures yeses { may_schedule (command (texts words.now)) ≡ false → SayYes machine.new
         (tally count.old).yeses (tally count.new).yeses
         (tally trace.old).yeses (tally trace.new).yeses }
     ensures owned { (t : Tables) (bytes : List ℕ) (n : ℕ) → Stands t bytes n machine.new →
@@ -135,7 +138,11 @@ pub fn reggio<F: Files, I: Source, O: Sink, R: Sink>(
     ensures done { ExactlyWhere (F.told files.old) (I.left input.old) (texts words.now)
         result Status.Done }
     ensures refused { (f : Fault) (bytes : List ℕ) →
+        (may_schedule (command (texts words.now)) ≡ true → ¬ IsBadSchedule (Status.Refused f)) →
         ExactlyWhere (F.told files.old) (Some bytes) (texts words.now) result (Status.Refused f) }
+    ensures refused_here { (f : Fault) →
+        ExactlyWhere (F.told files.old) (I.left input.old) (texts words.now)
+        result (Status.Refused f) }
     ensures usage { Exactly result Status.Usage (command (texts words.now) ≡ None) }
     ensures trap { (kind : Trap) (line : ℕ) →
         ExactlyWhere (F.told files.old) (I.left input.old) (texts words.now)

@@ -1,6 +1,6 @@
 -- Words of the command line, read as commands.
 use Rattle.std.proofs.Common.{◌≡◌, ℕ, true, false, List, [], ◌∷◌, Some, None, codes, refl}
-use Rattle.rg_words.specs.Commands.{run, plain, exec, command}
+use Rattle.rg_words.specs.Commands.{run, plain, exec, when, command}
 
 -- `run a`, and what stands behind it
 abbrev run_a : List (List ℕ) → List (List ℕ)
@@ -94,3 +94,19 @@ exec_without_a_file = refl
 
 exec_of_a_word_with_a_dash : command (codes "exec" ∷ codes "-a" ∷ []) ≡ None
 exec_of_a_word_with_a_dash = refl
+
+-- `when` has two files, and no options
+when_of_two_files : command (codes "when" ∷ codes "a" ∷ codes "p" ∷ []) ≡ Some (when (codes "a") (codes "p"))
+when_of_two_files = refl
+
+when_without_a_plan : command (codes "when" ∷ codes "a" ∷ []) ≡ None
+when_without_a_plan = refl
+
+when_with_a_word_more : command (codes "when" ∷ codes "a" ∷ codes "p" ∷ codes "q" ∷ []) ≡ None
+when_with_a_word_more = refl
+
+when_of_a_plan_with_a_dash : command (codes "when" ∷ codes "a" ∷ codes "-p" ∷ []) ≡ None
+when_of_a_plan_with_a_dash = refl
+
+when_of_a_file_with_a_dash : command (codes "when" ∷ codes "-a" ∷ codes "p" ∷ []) ≡ None
+when_of_a_file_with_a_dash = refl

@@ -9,6 +9,7 @@ use Rattle.rg_base.specs.Tokens.{value_of}
 use Rattle.rg_make.specs.declared.whole.TheConstants.{MOST_SIZE}
 use Rattle.rg_words.specs.declared.words.Options.{Options}
 use Rattle.rg_words.specs.declared.words.TheConstants.{MOST_EVERY, USUAL_EVERY}
+use Rattle.rg_words.specs.declared.limits.TheConstants.{MOST_NUMBERS}
 
 -- the words as texts
 abbrev pub texts : List (Bor (List ℕ)) → List (List ℕ)
@@ -32,6 +33,8 @@ pub data Command : Type 0 where
   bulk : (size : ℕ) → Command
   -- exec FILE --steps N --every N --report
   exec : (file : List ℕ) → (steps every : ℕ) → (report : Bool) → Command
+  -- when FILE PLAN
+  when : (file plan : List ℕ) → Command
 
 -- where a command's program comes from
 pub data Origin : Type 0 where
@@ -41,6 +44,8 @@ pub data Origin : Type 0 where
   generated : (size : ℕ) → Origin
   -- a file of that name has a module, which programs raise
   in_module : (file : List ℕ) → Origin
+  -- a file of that name has its source, and one of another name a plan for it
+  with_plan : (file plan : List ℕ) → Origin
 
 -- where the program of a command comes from
 abbrev pub origin_of : Command → Origin
@@ -52,8 +57,10 @@ origin_of (code file) = in_file file
 origin_of (pack file) = in_file file
 origin_of (bulk size) = generated size
 origin_of (exec file steps every report) = in_module file
+origin_of (when file plan) = with_plan file plan
 
--- the most steps that a command asks for; `bulk` asks for as many as there can be, and one that runs nothing for none
+-- the most steps that a command asks for; `bulk` asks for as many as there can be, `when` for as many as a schedule has numbers, and one that runs
+-- nothing for none
 abbrev pub steps_of : Command → ℕ
 steps_of (run slides file steps every report) = steps
 steps_of (plain file steps) = steps
@@ -63,6 +70,7 @@ steps_of (code file) = 0
 steps_of (pack file) = 0
 steps_of (bulk size) = MOST_STEPS
 steps_of (exec file steps every report) = steps
+steps_of (when file plan) = MOST_NUMBERS
 
 -- the number to which a command tunes the pacers: how often they are asked before they say yes, 0 for never; `bulk` has them say yes never
 abbrev pub every_of : Command → ℕ
@@ -74,6 +82,7 @@ every_of (code file) = 0
 every_of (pack file) = 0
 every_of (bulk size) = 0
 every_of (exec file steps every report) = every
+every_of (when file plan) = 0
 
 -- whether a command runs a program on the machine that is handed in
 abbrev pub runs_on : Command → Bool
@@ -85,6 +94,7 @@ runs_on (code file) = false
 runs_on (pack file) = false
 runs_on (bulk size) = true
 runs_on (exec file steps every report) = true
+runs_on (when file plan) = false
 
 -- whether it is `slide`
 abbrev pub is_slide : Command → Bool
@@ -96,6 +106,7 @@ is_slide (code file) = false
 is_slide (pack file) = false
 is_slide (bulk size) = false
 is_slide (exec file steps every report) = false
+is_slide (when file plan) = false
 
 -- whether a command reports
 abbrev pub reports : Command → Bool
@@ -107,6 +118,7 @@ reports (code file) = false
 reports (pack file) = false
 reports (bulk size) = false
 reports (exec file steps every report) = report
+reports (when file plan) = false
 
 -- whether what the words give does
 abbrev pub may_report : Option Command → Bool
@@ -123,6 +135,7 @@ reads_input (code file) = false
 reads_input (pack file) = false
 reads_input (bulk size) = false
 reads_input (exec file steps every report) = true
+reads_input (when file plan) = true
 
 -- whether what the words give may
 abbrev pub may_read : Option Command → Bool
@@ -139,11 +152,29 @@ opens_file (code file) = true
 opens_file (pack file) = true
 opens_file (bulk size) = false
 opens_file (exec file steps every report) = true
+opens_file (when file plan) = true
 
 -- whether what the words give opens one
 abbrev pub may_open : Option Command → Bool
 may_open None = false
 may_open (Some c) = opens_file c
+
+-- whether a command reads a schedule on the input
+abbrev pub is_scheduled : Command → Bool
+is_scheduled (run slides file steps every report) = false
+is_scheduled (plain file steps) = false
+is_scheduled (fmt file) = false
+is_scheduled (check file) = false
+is_scheduled (code file) = false
+is_scheduled (pack file) = false
+is_scheduled (bulk size) = false
+is_scheduled (exec file steps every report) = false
+is_scheduled (when file plan) = true
+
+-- whether what the words give does
+abbrev pub may_schedule : Option Command → Bool
+may_schedule None = false
+may_schedule (Some c) = is_scheduled c
 
 -- whether a word can name a file: it isn't empty and doesn't begin with -
 abbrev pub is_file : List ℕ → Bool
@@ -226,10 +257,17 @@ named name file options =
     if bytes_eq name (codes "code") then alone (code file) options else
     if bytes_eq name (codes "pack") then alone (pack file) options else None
 
--- the same, or `exec`
+-- `when` on a file, with the words behind it: one, which names the file of the plan
+abbrev pub scheduling : (file : List ℕ) → List (List ℕ) → Option Command
+scheduling file [] = None
+scheduling file (plan ∷ []) = if is_file plan then Some (when file plan) else None
+scheduling file (plan ∷ word ∷ words) = None
+
+-- what a name says of a file, with the words behind it
 abbrev pub on_file : List ℕ → List ℕ → List (List ℕ) → Option Command
 on_file name file options =
-    if bytes_eq name (codes "exec") then option_map (executing file) (options_in options no_options) else named name file options
+    if bytes_eq name (codes "exec") then option_map (executing file) (options_in options no_options) else
+    if bytes_eq name (codes "when") then scheduling file options else named name file options
 
 -- a command on a size alone
 abbrev pub sized : (number : List ℕ) → List (List ℕ) → Option Command

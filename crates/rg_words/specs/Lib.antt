@@ -2,3 +2,4 @@
 pub mod Commands
 pub mod Statuses
 pub mod Requests
+pub mod Answers

@@ -9,7 +9,8 @@ use Rattle.rg_words.specs.declared.words.TheConstants.{USUAL_EVERY}
 use Rattle.rg_words.specs.declared.words.Task.{Task}
 use Rattle.rg_words.specs.declared.words.Task.TheVariants as task
 use Rattle.rg_words.specs.declared.words.Request.TheVariants as request
-use Rattle.rg_words.specs.Commands.{Command, run, plain, fmt, check, code, pack, bulk, exec, Origin, in_file, generated, in_module, origin_of}
+use Rattle.rg_words.specs.Commands.{Command, run, plain, fmt, check, code, pack, bulk, exec, when, Origin, in_file, generated, in_module}
+use Rattle.rg_words.specs.Commands.{with_plan, origin_of}
 
 -- how a program is run with such options, and as usual where one isn't given
 abbrev pub run_options : (slides : Bool) → Options → RunOptions
@@ -30,12 +31,14 @@ command_of (request.Bulk size) = bulk size
 abbrev pub command_for : Task → Command
 command_for (task.OfProgram request) = command_of request
 command_for (task.OfModule file options) = exec file.now options.steps options.every options.report
+command_for (task.OfPlan file plan) = when file.now plan.now
 
 -- a size is within its limit
 abbrev pub IsWithin : Origin → Type 0
 IsWithin (in_file file) = ⊤
 IsWithin (generated size) = size ≤ MOST_SIZE
 IsWithin (in_module file) = ⊤
+IsWithin (with_plan file plan) = ⊤
 
 -- what is asked for is
 abbrev pub AsksWithin : Request → Type 0

@@ -1,5 +1,6 @@
 -- The numbers of the statuses, and the text that each gives to the notes (docs/language.md, "Statuses").
-use Rattle.std.specs.Prelude.{ℕ, Bool, true, false, List, [], ◌∷◌, ◌++◌, codes, decimal}
+use Rattle.std.specs.Prelude.{◌≡◌, ℕ, Bool, true, false, List, [], ◌∷◌, ◌++◌, codes, decimal}
+use Rattle.rg_base.specs.declared.fault.Code.TheVariants.{Schedule}
 use Rattle.rg_base.specs.declared.outcome.Trap.{Trap}
 use Rattle.rg_base.specs.declared.outcome.Trap.TheVariants as trap
 use Rattle.rg_base.specs.Diagnostics.{fault_text}
@@ -36,6 +37,7 @@ usage_text =
     codes "usage: reggio run FILE [--steps N] [--every N] [--report]; check FILE; fmt FILE; code FILE; plain FILE [--steps N]; bulk N"
     ++ codes "; slide FILE [--steps N] [--every N] [--report]; pack FILE"
     ++ codes "; exec FILE [--steps N] [--every N] [--report]"
+    ++ codes "; when FILE PLAN"
 
 -- the text of a status, where so many steps were asked for
 abbrev pub status_text : ℕ → Status → List ℕ
@@ -114,3 +116,16 @@ is_from_outside status.InputFault = true
 is_from_outside status.OutputFault = true
 is_from_outside status.Memory = true
 is_from_outside status.Long = false
+
+-- a refusal of a schedule
+abbrev pub IsBadSchedule : Status → Type 0
+IsBadSchedule status.Done = ⊥
+IsBadSchedule (status.Refused f) = f.code ≡ Schedule
+IsBadSchedule status.Usage = ⊥
+IsBadSchedule (status.Trap kind line) = ⊥
+IsBadSchedule status.Spent = ⊥
+IsBadSchedule status.SourceFault = ⊥
+IsBadSchedule status.InputFault = ⊥
+IsBadSchedule status.OutputFault = ⊥
+IsBadSchedule status.Memory = ⊥
+IsBadSchedule status.Long = ⊥

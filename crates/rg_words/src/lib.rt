@@ -8,6 +8,6 @@ mod limits;
 mod status;
 mod words;
 
-pub use limits::MODULE_BYTES;
+pub use limits::{MODULE_BYTES, MOST_NUMBERS};
 pub use status::Status;
 pub use words::{Request, RunOptions, Task, command, shape};

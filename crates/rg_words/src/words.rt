@@ -9,7 +9,7 @@ ghost use Rattle.rg_make.specs.declared.whole.TheConstants.{MOST_SIZE};
 ghost use Rattle.rg_words.specs.Commands.{command, texts, is_file, is_number, value_up_to};
 ghost use Rattle.rg_words.specs.Commands.{number_in, no_options, with_report, with_steps};
 ghost use Rattle.rg_words.specs.Commands.{with_every, with_number, options_in, running, executing};
-ghost use Rattle.rg_words.specs.Commands.{steps_in, named, on_file, sized};
+ghost use Rattle.rg_words.specs.Commands.{steps_in, named, scheduling, on_file, sized};
 ghost use Rattle.rg_words.specs.Requests.{command_of, command_for, run_options, AsksWithin};
 ghost use Rattle.rg_words.specs.Requests.{TaskWithin};
 
@@ -52,13 +52,15 @@ pub enum Request<'a> {
     Bulk { size: u32 },
 }
 
-/// What the words ask for: something of a program, or a run of a module.
+/// What the words ask for: something of a program, a run of a module, or of a schedule.
 #[derive(Clone, Copy)]
 pub enum Task<'a> {
     /// a command on a program
     OfProgram(Request<'a>),
     /// `exec FILE --steps N --every N --report`
     OfModule { file: &'a str, options: RunOptions },
+    /// `when FILE PLAN`
+    OfPlan { file: &'a str, plan: &'a str },
 }
 
 /// What the words behind the file of `run`, `slide` or `exec` have given so far.
@@ -303,14 +305,31 @@ fn exec<'a>(file: &'a str, words: &[&str]) -> Option<Task<'a>>
     Some(Task::OfModule { file, options })
 }
 
+/// `when` on a file with the words behind it.
+fn when<'a>(file: &'a str, words: &[&'a str]) -> Option<Task<'a>>
+    ensures is { option_map command_for result ≡ scheduling file.now (texts words.now) }
+    ensures within { IfSome result TaskWithin }
+{
+    let [plan] = words else {
+        return None;
+    };
+    if !can_name_file(plan) {
+        return None;
+    }
+    Some(Task::OfPlan { file, plan })
+}
+
 /// What a name and the words behind a file ask for of the file.
-fn on_file<'a>(name: &str, file: &'a str, options: &[&str]) -> Option<Task<'a>>
+fn on_file<'a>(name: &str, file: &'a str, options: &[&'a str]) -> Option<Task<'a>>
     ensures is { MatchOption result (on_file name.now file.now (texts options.now) ≡ None)
         (λ t. on_file name.now file.now (texts options.now) ≡ Some (command_for t)) }
     ensures within { IfSome result TaskWithin }
 {
     if name == "exec" {
         return exec(file, options);
+    }
+    if name == "when" {
+        return when(file, options);
     }
     let request = named(name, file, options)?;
     Some(Task::OfProgram(request))

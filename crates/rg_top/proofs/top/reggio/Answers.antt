@@ -1,10 +1,10 @@
 -- What the top call promises, from what the layers under it have answered.
-use Rattle.std.proofs.Common.{◌≡◌, ◌≤◌, ◌⊎◌, ℕ, inl, refl, ◌∙◌, List, Option, subst, arith, rules}
+use Rattle.std.proofs.Common.{◌≡◌, ◌≤◌, ◌⊎◌, ℕ, inl, refl, sym, ap, ◌∙◌, List, Option, subst, arith, rules}
 use Rattle.rg_io.specs.Content.{Rose}
 use Rattle.rg_io.proofs.Content.{Rose-since}
 use Rattle.rg_run.specs.Machine.{Kept}
 use Rattle.rg_words.specs.declared.status.Status.TheVariants as status
-use Rattle.rg_words.specs.Commands.{texts}
+use Rattle.rg_words.specs.Commands.{texts, may_schedule}
 use Rattle.rg_words.specs.Requests.{command_for}
 use Rattle.rg_commands.specs.Settled.{Chooses}
 use Rattle.rg_top.proofs.Answer.{Answered, answer-exactly, answer-refused, answer-complete, answer-unread}
@@ -118,7 +118,10 @@ pub returns-in-Some-clause-done : goal.returns-in-Some-clause-done
 returns-in-Some-clause-done g c = answer-exactly (answered g c refl refl) c.answers_are_one.ensures status.Done refl
 
 pub returns-in-Some-clause-refused : goal.returns-in-Some-clause-refused
-returns-in-Some-clause-refused g c = λ f. answer-refused (answered g c refl refl) c.answers_are_one.ensures (status.Refused f) refl refl
+returns-in-Some-clause-refused g c = λ f bytes n. answer-refused (answered g c refl refl) c.answers_are_one.ensures (status.Refused f) refl refl n bytes
+
+pub returns-in-Some-clause-refused_here : goal.returns-in-Some-clause-refused_here
+returns-in-Some-clause-refused_here g c = λ f. answer-exactly (answered g c refl refl) c.answers_are_one.ensures (status.Refused f) refl
 
 pub returns-in-Some-clause-trap : goal.returns-in-Some-clause-trap
 returns-in-Some-clause-trap g c = λ kind line. answer-exactly (answered g c refl refl) c.answers_are_one.ensures (status.Trap kind line) refl
@@ -127,7 +130,7 @@ pub returns-in-Some-clause-spent : goal.returns-in-Some-clause-spent
 returns-in-Some-clause-spent g c = answer-exactly (answered g c refl refl) c.answers_are_one.ensures status.Spent refl
 
 pub returns-in-Some-clause-long : goal.returns-in-Some-clause-long
-returns-in-Some-clause-long g c = answer-refused (answered g c refl refl) c.answers_are_one.ensures status.Long refl refl
+returns-in-Some-clause-long g c = answer-refused (answered g c refl refl) c.answers_are_one.ensures status.Long refl refl (λ on bad. bad)
 
 pub returns-in-Some-clause-input_fault : goal.returns-in-Some-clause-input_fault
 returns-in-Some-clause-input_fault g c = λ i.
@@ -150,22 +153,26 @@ pub returns-in-None-clause-trap : goal.returns-in-None-clause-trap
 returns-in-None-clause-trap g c = λ kind line. usage-exactly _ _ _ _ (status.Trap kind line) c.in-None.ensures.is c.tell.ensures.told refl
 
 pub returns-in-None-clause-refused : goal.returns-in-None-clause-refused
-returns-in-None-clause-refused g c = λ f bytes. usage-exactly _ _ _ _ (status.Refused f) c.in-None.ensures.is c.tell.ensures.told refl
+returns-in-None-clause-refused g c = λ f bytes n. usage-exactly _ _ _ _ (status.Refused f) c.in-None.ensures.is c.tell.ensures.told refl
+
+pub returns-in-None-clause-refused_here : goal.returns-in-None-clause-refused_here
+returns-in-None-clause-refused_here g c = λ f. usage-exactly _ _ _ _ (status.Refused f) c.in-None.ensures.is c.tell.ensures.told refl
 
 pub returns-in-None-clause-long : goal.returns-in-None-clause-long
 returns-in-None-clause-long g c = λ bytes. usage-exactly _ _ _ _ status.Long c.in-None.ensures.is c.tell.ensures.told refl
 
 pub returns-in-Some-clause-asked : goal.returns-in-Some-clause-asked
-returns-in-Some-clause-asked g c =
+returns-in-Some-clause-asked g c = λ off.
     asked-each c.each_runs.ensures _ _ (texts c.args.words.now) _ _ _ _ _
     (asked-moved _ (texts c.args.words.now) _ c.answer-status.new.self.machine.now _ _ _ _ _ (search rules)
-    (asked-words _ (texts c.args.words.now) (command_for c.in-Some.task) _ _ _ _ _ _ c.in-Some.ensures.is c.answer-status.ensures.asked))
+    (asked-words _ (texts c.args.words.now) (command_for c.in-Some.task) _ _ _ _ _ _ c.in-Some.ensures.is
+    (c.answer-status.ensures.asked (sym (ap may_schedule c.in-Some.ensures.is) ∙ off))))
 
 pub returns-in-Some-clause-yeses : goal.returns-in-Some-clause-yeses
-returns-in-Some-clause-yeses g c = let said = c.answer-status.ensures.yeses in search rules
+returns-in-Some-clause-yeses g c = λ off. let said = c.answer-status.ensures.yeses (sym (ap may_schedule c.in-Some.ensures.is) ∙ off) in search rules
 
 pub returns-in-None-clause-asked : goal.returns-in-None-clause-asked
-returns-in-None-clause-asked g c = inl (record { fresh = c.requires.fresh; count = refl; trace = refl })
+returns-in-None-clause-asked g c = λ off. inl (record { fresh = c.requires.fresh; count = refl; trace = refl })
 
 pub returns-in-None-clause-yeses : goal.returns-in-None-clause-yeses
-returns-in-None-clause-yeses g c = yeses-fresh _ _ _ _ _ c.requires.fresh refl refl
+returns-in-None-clause-yeses g c = λ off. yeses-fresh _ _ _ _ _ c.requires.fresh refl refl

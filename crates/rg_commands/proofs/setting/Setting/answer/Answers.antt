@@ -1,3 +1,6 @@
+use Rattle.std.proofs.Common.{sym, subst}
+use Rattle.rg_run.specs.Machine.{IsFresh}
+use Rattle.rg_commands.proofs.Settled.{no_lie}
 use Rattle.rg_commands.proofs.setting.Setting.answer.Goals as goal
 
 pub returns-in-OfProgram-clause-settles : goal.returns-in-OfProgram-clause-settles
@@ -7,19 +10,32 @@ pub returns-in-OfModule-clause-settles : goal.returns-in-OfModule-clause-settles
 returns-in-OfModule-clause-settles g c = rw c.in-OfModule.is c.answer_module.ensures.settles
 
 pub returns-in-OfProgram-clause-asked : goal.returns-in-OfProgram-clause-asked
-returns-in-OfProgram-clause-asked g c = rw c.in-OfProgram.is c.answer_request.ensures.asked
+returns-in-OfProgram-clause-asked g c = rw c.in-OfProgram.is (λ off. c.answer_request.ensures.asked)
 
 pub returns-in-OfModule-clause-asked : goal.returns-in-OfModule-clause-asked
-returns-in-OfModule-clause-asked g c = rw c.in-OfModule.is c.answer_module.ensures.asked
+returns-in-OfModule-clause-asked g c = rw c.in-OfModule.is (λ off. c.answer_module.ensures.asked)
 
 pub returns-in-OfProgram-clause-yeses : goal.returns-in-OfProgram-clause-yeses
-returns-in-OfProgram-clause-yeses g c = c.answer_request.ensures.yeses
+returns-in-OfProgram-clause-yeses g c = λ off. c.answer_request.ensures.yeses
 
 pub returns-in-OfModule-clause-yeses : goal.returns-in-OfModule-clause-yeses
-returns-in-OfModule-clause-yeses g c = c.answer_module.ensures.yeses
+returns-in-OfModule-clause-yeses g c = λ off. c.answer_module.ensures.yeses
 
 pub returns-in-OfModule-clause-tuned : goal.returns-in-OfModule-clause-tuned
 returns-in-OfModule-clause-tuned g c = rw c.in-OfModule.is (λ on. c.answer_module.ensures.tuned)
 
 pub returns-in-OfModule-clause-slides : goal.returns-in-OfModule-clause-slides
 returns-in-OfModule-clause-slides g c = rw c.in-OfModule.is (λ begun. c.answer_module.ensures.kept.1)
+
+pub returns-in-OfPlan-clause-settles : goal.returns-in-OfPlan-clause-settles
+returns-in-OfPlan-clause-settles g c = rw c.in-OfPlan.is c.answer_plan.ensures.settles
+
+pub returns-in-OfPlan-clause-asked : goal.returns-in-OfPlan-clause-asked
+returns-in-OfPlan-clause-asked g c = rw c.in-OfPlan.is (λ off. absurd (no_lie off))
+
+pub returns-in-OfPlan-clause-yeses : goal.returns-in-OfPlan-clause-yeses
+returns-in-OfPlan-clause-yeses g c = rw c.in-OfPlan.is (λ off. absurd (no_lie off))
+
+pub returns-in-OfPlan-clause-slides : goal.returns-in-OfPlan-clause-slides
+returns-in-OfPlan-clause-slides g c =
+    rw c.in-OfPlan.is (λ begun. absurd (begun (subst IsFresh (sym c.answer_plan.ensures.machine) c.requires.unused.fresh)))

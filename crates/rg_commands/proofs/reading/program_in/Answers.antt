@@ -1,7 +1,0 @@
-use Rattle.std.proofs.Common.{◌∙◌, ap, Err}
-use Rattle.rg_commands.proofs.Refused.{long-refuses}
-use Rattle.rg_commands.proofs.reading.program_in.Goals as goal
-
-pub returns-in-Err-Long-clause-brings : goal.returns-in-Err-Long-clause-brings
-returns-in-Err-Long-clause-brings g c =
-    long-refuses (g.F.Files.told c.args.files.now) c.args.name.now (c.take_all.ensures.long (c.in-Err-Long.is ∙ ap Err c.in-Err-Long.field-0-is))

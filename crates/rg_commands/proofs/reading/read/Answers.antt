@@ -1,5 +1,0 @@
-use Rattle.rg_commands.proofs.Meaning.{few-names}
-use Rattle.rg_commands.proofs.reading.read.Goals as goal
-
-pub returns-clause-names : goal.returns-clause-names
-returns-clause-names c = few-names _ _ c.parse.result c.spelt_has_few_names.ensures c.parse.ensures.ok

@@ -1,0 +1,37 @@
+use Rattle.std.proofs.Common.{refl, inr, subst}
+use Rattle.rg_tree.specs.Rows.RowTrees.{program_of}
+use Rattle.rg_words.specs.declared.status.Status.{Status}
+use Rattle.rg_words.specs.Commands.{when, with_plan}
+use Rattle.rg_when.specs.Scheduled.{SettlesSchedule}
+use Rattle.rg_commands.proofs.Planned.{is-read}
+use Rattle.rg_commands.proofs.Refused.{refuses-settles, refuses-caused}
+use Rattle.rg_commands.proofs.setting.Setting.answer_plan.Goals as goal
+
+pub run_planned-requires : goal.run_planned-requires
+run_planned-requires g c = let there = c.in-Ok.ensures.brings in is-read _ there.source.plan _ there.means.2
+
+pub returns-in-Err-clause-settles : goal.returns-in-Err-clause-settles
+returns-in-Err-clause-settles g c =
+    refuses-settles _ (when c.args.file.now c.args.plan.now) c.in-Err.status _ _ _ _ c.in-Err.ensures.brings c.requires.fresh refl
+
+pub returns-in-Err-clause-caused : goal.returns-in-Err-clause-caused
+returns-in-Err-clause-caused g c =
+    refuses-caused (g.F.Files.told c.args.files.now) (with_plan c.args.file.now c.args.plan.now) c.in-Err.status _ _ _ c.in-Err.ensures.brings
+
+pub returns-in-Ok-clause-settles : goal.returns-in-Ok-clause-settles
+returns-in-Ok-clause-settles g c =
+    let there = c.in-Ok.ensures.brings in
+    inr (inr (record {
+      source = there.source;
+      has = there.has;
+      tree = program_of c.in-Ok.planned.accepted.program;
+      plan = c.in-Ok.planned.plan;
+      means = there.means;
+      settles = c.run_planned.ensures.settles;
+      fresh = c.requires.fresh;
+    }))
+
+pub returns-in-Ok-clause-source_fault : goal.returns-in-Ok-clause-source_fault
+returns-in-Ok-clause-source_fault g c = λ e.
+    let P : Status → Type 0 = λ s. SettlesSchedule (program_of c.in-Ok.planned.accepted.program) c.in-Ok.planned.plan _ s _ _ in
+    absurd (subst P e c.run_planned.ensures.settles)

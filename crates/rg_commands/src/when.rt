@@ -1,0 +1,46 @@
+//! `when FILE PLAN`: runs the behaviours of a plan by the schedule on the input.
+
+ghost use Rattle.std.specs.Prelude.{◌≡◌, ◌≤◌};
+ghost use Rattle.rg_io.specs.Content.{Rose};
+ghost use Rattle.rg_words.specs.Commands.{when};
+ghost use Rattle.rg_commands.specs.Setting.{IsUnused, IsLent, SettlesCommandIn, CausedIn};
+
+use crate::setting::Setting;
+use rg_io::{Files, Sink, Source};
+use rg_pace::Pacer;
+use rg_sources::{Planned, planned_in};
+use rg_when::run_planned;
+use rg_words::Status;
+
+impl<O: Sink, R: Sink> Setting<'_, O, R> {
+    /// Reads a program and a plan for it, and runs it by the schedule on the input.
+    pub(crate) fn answer_plan<F: Files, I: Source>(
+        &mut self,
+        file: &str,
+        plan: &str,
+        files: &mut F,
+        input: &mut I,
+        count: &mut dyn Pacer,
+        trace: &mut dyn Pacer,
+    ) -> Status
+        requires { IsUnused self.old }
+        ensures settles { SettlesCommandIn O.taken (F.told files.old) (when file.now plan.now)
+            (I.left input.old) result self.old self.new (input.new ≡ input.old) }
+        ensures notes { R.taken self.new.notes.now ≡ R.taken self.old.notes.now }
+        ensures machine { self.new.machine.now ≡ self.old.machine.now }
+        ensures source_fault { result ≡ Status.SourceFault →
+            Rose (F.faults files.old) (F.faults files.new) }
+        ensures files_never_fall { F.faults files.old ≤ F.faults files.new }
+        ensures caused { CausedIn O.faults R.faults result (I.faults input.old) (I.faults input.new)
+            self.old self.new }
+        ensures lent { IsLent self.old self.new }
+    {
+        match planned_in(self.alloc, file, plan, files) {
+            Err(status) => status,
+            Ok(planned) => {
+                let Planned { accepted, plan } = &planned;
+                run_planned(self.alloc, accepted, plan, input, self.out, count, trace)
+            }
+        }
+    }
+}
