@@ -1,4 +1,4 @@
--- A source means one thing, and a command answers one status to it.
+-- A command answers one thing to its files, and one status.
 use Rattle.std.proofs.Common.{◌≡◌, ℕ, Bool, true, false, List, [], length, Option, Some, None, refl, sym, ◌∙◌}
 use Rattle.std.proofs.Common.{ap, subst}
 use Rattle.std.proofs.Common.{arith}
@@ -16,11 +16,11 @@ use Rattle.rg_verified.specs.Told.{RaisedAlike}
 use Rattle.rg_words.specs.declared.status.Status.{Status}
 use Rattle.rg_base.specs.Text.{text}
 use Rattle.rg_words.specs.Commands.{Command, run, plain, fmt, check, code, pack, bulk, exec, when, origin_of, is_scheduled}
-use Rattle.rg_words.specs.Statuses.{is_refusal}
+use Rattle.rg_words.specs.Statuses.{is_refusal, IsBadSchedule}
 use Rattle.rg_words.specs.Answers.{Answer, refused}
-use Rattle.rg_words.specs.Statuses.{IsBadSchedule}
 use Rattle.rg_sources.specs.Sources.{Sources, planned, Meaning, too_long, faulty, spelt}
 use Rattle.rg_sources.specs.Sources.{MeansModule, MeansFrom}
+use Rattle.rg_sources.proofs.Meaning.{means-one, no-program-one, no-program, plan-one}
 use Rattle.rg_when.specs.Scheduled.{said_answer}
 use Rattle.rg_commands.specs.Expected.{status_of, run_answer, unless_fault, expected, ExpectsStatus}
 use Rattle.rg_base.specs.declared.fault.Code.TheVariants.{Schedule}

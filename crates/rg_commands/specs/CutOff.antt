@@ -1,4 +1,4 @@
--- Which program runs, and what a call leaves that was refused or cut off (docs/promises.md).
+-- What a call leaves that was refused or cut off (docs/promises.md).
 use Rattle.std.specs.Prelude.{◌≡◌, ℕ, ◌+◌, ◌-◌, ◌<◌, ◌≤◌, true, List, [], ◌++◌, Option}
 use Rattle.rg_base.specs.declared.limits.TheConstants.{MOST_STEPS}
 use Rattle.rg_io.specs.Content.{Appends, AppendsPart, AppendsUpTo}
@@ -15,7 +15,7 @@ use Rattle.rg_run.specs.Sound.{IsSound, Stands, NeverAsks}
 use Rattle.rg_words.specs.Commands.{Command, run, plain, fmt, check, code, pack, bulk, exec, when, in_file, generated, in_module}
 use Rattle.rg_words.specs.Commands.{with_plan}
 use Rattle.rg_plan.specs.Plans.{PlanOf}
-use Rattle.rg_sources.specs.Sources.{Sources, spelt, planned, MeansFrom}
+use Rattle.rg_sources.specs.Sources.{Sources, spelt, planned, MeansFrom, Runs}
 use Rattle.rg_when.specs.Scheduled.{schedule_answer}
 use Rattle.rg_commands.specs.Expected.{accepted_text, listed_text, packed_text, text_after, line_behind}
 

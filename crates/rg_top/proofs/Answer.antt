@@ -10,8 +10,7 @@ use Rattle.rg_run.specs.Machine.{Kept, numbers_of}
 use Rattle.rg_words.specs.declared.status.Status.{Status}
 use Rattle.rg_words.specs.declared.status.Status.TheVariants as status
 use Rattle.rg_words.specs.Commands.{Command, command, origin_of, reads_input, may_read, opens_file, may_open, may_schedule, steps_of}
-use Rattle.rg_words.specs.Statuses.{is_answer, is_refusal, is_cut_off, is_from_outside}
-use Rattle.rg_words.specs.Statuses.{IsBadSchedule}
+use Rattle.rg_words.specs.Statuses.{is_answer, is_refusal, is_cut_off, is_from_outside, IsBadSchedule}
 use Rattle.rg_words.specs.Answers.{ForInput}
 use Rattle.rg_sources.specs.Sources.{Sources, HasSource}
 use Rattle.rg_commands.specs.Expected.{ExpectsStatus}

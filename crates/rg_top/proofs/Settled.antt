@@ -22,9 +22,8 @@ use Rattle.rg_run.proofs.Run.{run-of, wrote-whole, text-part}
 use Rattle.rg_words.specs.declared.status.Status.{Status}
 use Rattle.rg_words.specs.declared.status.Status.TheVariants as status
 use Rattle.rg_words.specs.Commands.{Command, run, plain, fmt, check, code, pack, bulk, exec, when, in_file, in_module, with_plan, origin_of}
-use Rattle.rg_words.specs.Statuses.{is_answer, is_from_outside}
+use Rattle.rg_words.specs.Statuses.{is_answer, is_from_outside, is_refusal, IsBadSchedule}
 use Rattle.rg_words.specs.Answers.{Answer, ForInput}
-use Rattle.rg_words.specs.Statuses.{IsBadSchedule}
 use Rattle.rg_words.proofs.Written.{untouched-text}
 use Rattle.rg_sources.specs.Sources.{Sources, planned, too_long, faulty, spelt, MeansFrom}
 use Rattle.rg_when.specs.Scheduled.{schedule_answer, said_answer, Scheduled, SettlesSchedule}
@@ -39,7 +38,6 @@ use Rattle.rg_plan.specs.Plans.{PlanOf}
 use Rattle.rg_schedule.specs.Schedules.{schedule_of}
 use Rattle.rg_io.specs.Files.{Told}
 use Rattle.rg_words.specs.Commands.{is_scheduled}
-use Rattle.rg_words.specs.Statuses.{is_refusal}
 
 -- the source of an input has some bytes
 pub for-input : (left : Option (List ℕ)) (P : List ℕ → Type 0) → ((input : List ℕ) → P input) → ForInput left P
