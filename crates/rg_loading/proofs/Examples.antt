@@ -1,5 +1,6 @@
 -- Plans whose images were read by hand: what their cowns come to.
-use Rattle.std.proofs.Common.{◌≡◌, ◌<◌, refl, sym, subst, ℕ, pos, List, [], ◌∷◌, ◌++◌, length, true, codes, Some, None, Ok, Err, arith}
+use Rattle.std.proofs.Common.{◌≡◌, ◌<◌, refl, sym, subst, ℕ, pos, List, [], ◌∷◌, ◌++◌, length, false, codes, Option, Some, None, Ok, Err, arith}
+use Rattle.std.proofs.lemmas.Int.{ints}
 use Rattle.rg_base.specs.declared.words.Manager.TheVariants as manager
 use Rattle.rg_base.specs.declared.object.Label.TheVariants.{Region}
 use Rattle.rg_base.specs.declared.value.Val.TheVariants.{Int}
@@ -7,7 +8,7 @@ use Rattle.rg_tree.specs.Tree.{int, Tree, Class}
 use Rattle.rg_rules.proofs.Sources.{field_named, class_named, program}
 use Rattle.rg_cown.specs.Cargo.{CargoList}
 use Rattle.rg_opening.specs.Beginning.{bridge_class}
-use Rattle.rg_image.specs.ImageText.{image_text}
+use Rattle.rg_image.specs.ImageText.{image_text, FitsValue}
 use Rattle.rg_image.specs.Images.{IsImage, OneContent}
 use Rattle.rg_plan.specs.declared.cown.Cown.{Cown}
 use Rattle.rg_plan.specs.declared.cown.Start.TheVariants.{New, Image}
@@ -25,12 +26,15 @@ two = record { cells = record { class = 0; label = Region 0; fields = Int (pos 2
 abbrev image_of_two : List ℕ
 image_of_two = image_text (Some two)
 
+fits_two : FitsValue (Int (pos 2))
+fits_two = grind (arith, ints)
+
 image-of-two : IsImage two_classes image_of_two (Some two)
 image-of-two = record {
   text = refl;
   numbers = record {
     managers = (omega arith, (tt, tt));
-    cells = (omega arith, (record { class = omega arith; label = omega arith; fields = (omega arith, ((tt, tt), tt)) }, tt));
+    cells = (omega arith, (record { class = omega arith; label = omega arith; fields = (omega arith, (fits_two, tt)) }, tt));
   };
   fits = (refl, refl);
 }
@@ -61,7 +65,7 @@ one_load : LoadsCome two_classes (new_cown 1 ∷ loaded 0 2 ∷ []) (image_of_tw
 one_load = (Ok (two ∷ []), (Ok two, two-comes, (Ok [], (refl, refl), refl)), refl)
 
 -- the same image for a cown of another class
-zero-is_one : Some 0 ≡ Some 1 → ⊥
+zero-is_one : ◌≡◌ {A = Option ℕ} (Some 0) (Some 1) → ⊥
 zero-is_one e = cc
 
 another_class : OneContent → (x : CargoList) → IsImageOf two_classes 1 image_of_two x → ⊥

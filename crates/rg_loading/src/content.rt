@@ -41,12 +41,7 @@ fn no_image(cown: &Cown) -> Status
 }
 
 // The content whose image the bytes are, if the cown of a `load` line may have it.
-fn image_of(
-    alloc: Global,
-    bytes: &[u8],
-    cown: &Cown,
-    accepted: &Accepted,
-) -> Result<Cargo, Status>
+fn image_of(alloc: Global, bytes: &[u8], cown: &Cown, accepted: &Accepted) -> Result<Cargo, Status>
     requires { length bytes.now ≤ IMAGE_BYTES }
     ensures brings { Brings (λ x. x)
         (FileComes (program_of accepted.now.program) cown.now bytes.now) result }

@@ -30,7 +30,7 @@ pub fn images_in<F: Files>(
         (program_of accepted.now.program) plan.now.cowns) result }
     ensures read { (bytes : List ℕ) → plan_of (program_of accepted.now.program) bytes ≡ Ok plan.now →
         IfOk result (λ images.
-            IsReadFor (program_of accepted.now.program) plan.now images.items) }
+        IsReadFor (program_of accepted.now.program) plan.now images.items) }
     ensures source_fault { result ≡ Err Status.SourceFault →
         Rose (F.faults files.old) (F.faults files.new) }
     ensures same_files { SameFiles (F.told files.old) (F.told files.new) }
