@@ -1,7 +1,7 @@
 -- What cowns come to, by what the first of them comes to.
-use Rattle.std.proofs.Common.{◌≡◌, ℕ, ◌+◌, ◌⊎◌, inl, inr, List, [], ◌∷◌, ◌++◌, drop, slice_get, Option, Some, None, Result, Ok, Err}
+use Rattle.std.proofs.Common.{◌≡◌, ℕ, ◌+◌, ◌≤◌, ◌⊎◌, inl, inr, List, [], ◌∷◌, ◌++◌, length, drop, slice_get, Option, Some, None, Result, Ok, Err}
 use Rattle.std.proofs.Common.{refl, sym, ◌∙◌, ap, subst}
-use Rattle.std.proofs.lemmas.List.{append_assoc, append-nil, drop_more}
+use Rattle.std.proofs.lemmas.List.{append_assoc, append-nil, drop_all, drop_more}
 use Rattle.std.proofs.lemmas.Option.{slice_get_within, get_or_from_slice_get}
 use Rattle.rg_io.specs.Files.{Told, FileMap, file_bytes, SameFiles, HasFile}
 use Rattle.rg_tree.specs.Tree.{Tree}
@@ -97,9 +97,10 @@ one-ends told t cowns at images c why there h lead =
     lead (Err why) (subst P (sym (drop-at cowns at c there)) (first-fails told t c (drop (at + 1) cowns) why h))
 
 -- no cown is left
-pub all-lead : (told : Option Told) (t : Tree) (cowns : List Cown) (at : ℕ) (images : List CargoList) → drop at cowns ≡ [] →
+pub all-lead : (told : Option Told) (t : Tree) (cowns : List Cown) (at : ℕ) (images : List CargoList) → length cowns ≤ at →
     Lead told t cowns at images → CownsCome told t cowns (Ok images)
-all-lead told t cowns at images end lead =
+all-lead told t cowns at images all lead =
+    let end = drop_all at cowns all in
     let P : List Cown → Type 0 = λ cs. CownsCome told t cs (Ok []) in
     let Q : List CargoList → Type 0 = λ xs. CownsCome told t cowns (Ok xs) in
     subst Q (append-nil images) (lead (Ok []) (subst P (sym end) ([], tt, (refl, refl))))

@@ -1,8 +1,10 @@
-use Rattle.std.proofs.Common.{inr, arith}
+use Rattle.std.proofs.Common.{◌+◌, ◌≤◌, inr, length, Ok, sym, subst, arith}
 use Rattle.rg_tree.specs.Rows.RowTrees.{program_of}
-use Rattle.rg_loading.specs.Files.{memory}
-use Rattle.rg_loading.proofs.Coming.{status-ends, same-after, start-before, one-leads, all-lead}
+use Rattle.rg_loading.specs.Files.{CownsCome, memory}
+use Rattle.rg_loading.proofs.Coming.{Lead, status-ends, same-after, start-before, one-leads, all-lead}
 use Rattle.rg_loading.proofs.Read.{is-read}
+use Rattle.rg_loading.proofs.images.images_in.Given.{Over}
+use Rattle.rg_loading.proofs.images.images_in.Goals.{After-loop-i}
 use Rattle.rg_loading.proofs.images.images_in.Goals as goal
 
 pub returns-in-Err-clause-brings : goal.returns-in-Err-clause-brings
@@ -15,10 +17,33 @@ pub returns-in_default-clause-brings : goal.returns-in_default-clause-brings
 returns-in_default-clause-brings g c = inr memory
 
 pub loop-i-preserved : goal.loop-i-preserved
-loop-i-preserved g c = ?
+loop-i-preserved g c =
+    let told = g.F.Files.told c.args.files.now in
+    let now = c.loop-i in
+    let mid = g.F.Files.told now.files in
+    let t = program_of c.args.accepted.now.program in
+    let cowns = c.args.plan.now.cowns in
+    let cown = c.cown.result.now in
+    let has = start-before told mid t cown cown.start (Ok c.in-Ok.content) now.invariant.same c.in-Ok.ensures.brings in
+    let lead = one-leads told t cowns now.i now.images.items cown c.in-Ok.content c.cown.ensures has now.invariant.lead in
+    record {
+      same = same-after told mid (g.F.Files.told c.content_in.new.files) now.invariant.same c.content_in.ensures.same_files;
+      rising = omega (arith, now.invariant.rising, c.content_in.ensures.never_fall);
+      lead = subst (Lead told t cowns (now.i + 1)) (sym c.in-Ok-push.ensures.items) lead;
+    }
+
+-- what the cowns come to behind the last one
+come : (g : Over) (c : After-loop-i g) →
+    CownsCome (g.F.Files.told c.args.files.now) (program_of c.args.accepted.now.program) c.args.plan.now.cowns (Ok c.loop-i.images.items)
+come g c =
+    let now = c.loop-i in
+    let all : length c.args.plan.now.cowns ≤ now.i = omega (arith, c.loop-i-test.false, c.cowns-i-end.ensures) in
+    all-lead (g.F.Files.told c.args.files.now) (program_of c.args.accepted.now.program) c.args.plan.now.cowns now.i now.images.items all
+    now.invariant.lead
 
 pub returns-clause-brings : goal.returns-clause-brings
-returns-clause-brings g c = ?
+returns-clause-brings g c = come g c
 
 pub returns-clause-read : goal.returns-clause-read
-returns-clause-read g c = ?
+returns-clause-read g c bytes read =
+    is-read (g.F.Files.told c.args.files.now) (program_of c.args.accepted.now.program) bytes c.args.plan.now c.loop-i.images.items read (come g c)
