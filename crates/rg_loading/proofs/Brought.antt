@@ -1,5 +1,5 @@
 -- What the file of a `load` line brings, by what was read of it.
-use Rattle.std.proofs.Common.{◌≡◌, ◌≢◌, ℕ, suc, ◌<◌, ◌≤◌, ◌⊎◌, inl, inr, List, length, replicate, Option, Some, None, Ok, Err, refl, sym, ◌∙◌, subst, arith}
+use Rattle.std.proofs.Common.{◌≡◌, ◌≢◌, ℕ, suc, ◌<◌, ◌≤◌, ◌⊎◌, inl, List, length, replicate, Option, Some, None, Ok, Err, refl, subst, arith}
 use Rattle.std.proofs.lemmas.List.{length-replicate}
 use Rattle.rg_base.specs.declared.fault.Code.TheVariants.{Image as image_code}
 use Rattle.rg_base.specs.declared.fault.Fault.{Fault}

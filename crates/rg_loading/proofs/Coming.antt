@@ -10,9 +10,8 @@ use Rattle.rg_plan.specs.declared.cown.Start.{Start}
 use Rattle.rg_plan.specs.declared.cown.Start.TheVariants.{New, Image}
 use Rattle.rg_plan.specs.declared.cown.Cown.{Cown}
 use Rattle.rg_words.specs.declared.status.Status.{Status}
-use Rattle.rg_words.specs.declared.status.Status.TheVariants as status
-use Rattle.rg_loading.specs.Loading.{Failing, FileComes, in_front, FirstComes, LoadsCome, with_name, file_names}
-use Rattle.rg_loading.specs.Files.{HaveFiles, CownsCome, StartComes, status_of, IsUnread, Brings}
+use Rattle.rg_loading.specs.Loading.{Failing, in_front, FirstComes, LoadsCome, with_name, file_names}
+use Rattle.rg_loading.specs.Files.{HaveFiles, CownsCome, StartComes, status_of, IsUnread}
 
 -- files that tell the same
 
@@ -82,13 +81,15 @@ drop-at : (xs : List Cown) (n : ℕ) (x : Cown) → slice_get xs n ≡ Some x �
 drop-at xs n x there =
     drop_more xs n x (slice_get_within xs n x there) ∙ ap (λ z. z ∷ drop (n + 1) xs) (get_or_from_slice_get xs n x x there)
 
-pub one-leads : (told : Option Told) (t : Tree) (cowns : List Cown) (at : ℕ) (images : List CargoList) (c : Cown) (x : CargoList) →
-    slice_get cowns at ≡ Some c → StartComes told t c c.start (Ok x) → Lead told t cowns at images → Lead told t cowns (at + 1) (images ++ x ∷ [])
-one-leads told t cowns at images c x there h lead r g =
+pub one-leads : (told : Option Told) (t : Tree) (cowns : List Cown) (at : ℕ) (images more : List CargoList) (c : Cown) (x : CargoList) →
+    slice_get cowns at ≡ Some c → StartComes told t c c.start (Ok x) → more ≡ images ++ x ∷ [] → Lead told t cowns at images →
+    Lead told t cowns (at + 1) more
+one-leads told t cowns at images more c x there h grown lead r g =
     let P : List Cown → Type 0 = λ cs. CownsCome told t cs (in_front (x ∷ []) r) in
     let Q : Result (List CargoList) Failing → Type 0 = λ q. CownsCome told t cowns q in
     let here = subst P (sym (drop-at cowns at c there)) (first-comes told t c (drop (at + 1) cowns) x r h g) in
-    subst Q (more-front images (x ∷ []) r) (lead (in_front (x ∷ []) r) here)
+    let front = more-front images (x ∷ []) r ∙ ap (λ ys. in_front ys r) (sym grown) in
+    subst Q front (lead (in_front (x ∷ []) r) here)
 
 pub one-ends : (told : Option Told) (t : Tree) (cowns : List Cown) (at : ℕ) (images : List CargoList) (c : Cown) (why : Failing) →
     slice_get cowns at ≡ Some c → StartComes told t c c.start (Err why) → Lead told t cowns at images → CownsCome told t cowns (Err why)

@@ -1,10 +1,10 @@
 -- Plans whose images were read by hand: what their cowns come to.
-use Rattle.std.proofs.Common.{◌≡◌, ◌<◌, refl, sym, subst, ℕ, pos, List, [], ◌∷◌, ◌++◌, length, false, codes, Option, Some, None, Ok, Err, arith}
+use Rattle.std.proofs.Common.{◌≡◌, ◌<◌, refl, sym, subst, ℕ, pos, List, [], ◌∷◌, length, false, codes, Option, Some, None, Ok, Err, arith}
 use Rattle.std.proofs.lemmas.Int.{ints}
 use Rattle.rg_base.specs.declared.words.Manager.TheVariants as manager
 use Rattle.rg_base.specs.declared.object.Label.TheVariants.{Region}
 use Rattle.rg_base.specs.declared.value.Val.TheVariants.{Int}
-use Rattle.rg_tree.specs.Tree.{int, Tree, Class}
+use Rattle.rg_tree.specs.Tree.{int, Tree}
 use Rattle.rg_rules.proofs.Sources.{field_named, class_named, program}
 use Rattle.rg_cown.specs.Cargo.{CargoList}
 use Rattle.rg_opening.specs.Beginning.{bridge_class}

@@ -1,5 +1,5 @@
 -- Contents that cowns come to are those of their images, one for each.
-use Rattle.std.proofs.Common.{◌≡◌, ℕ, zero, suc, ◌+◌, List, [], ◌∷◌, ◌++◌, length, slice_get, Option, Some, None, Result, Ok, Err, refl, sym, ◌∙◌, ap, subst, arith}
+use Rattle.std.proofs.Common.{◌≡◌, ℕ, zero, suc, List, [], ◌∷◌, length, slice_get, Option, Some, Result, Ok, Err, refl, sym, ◌∙◌, ap, subst, arith}
 use Rattle.rg_base.specs.declared.words.Cap.TheVariants.{Iso}
 use Rattle.rg_base.specs.declared.ty.Ty.TheVariants.{Ref}
 use Rattle.rg_io.specs.Files.{Told}

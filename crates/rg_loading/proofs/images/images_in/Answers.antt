@@ -1,7 +1,7 @@
-use Rattle.std.proofs.Common.{◌+◌, ◌≤◌, inr, length, Ok, sym, subst, arith}
+use Rattle.std.proofs.Common.{◌≤◌, inr, length, Ok, arith}
 use Rattle.rg_tree.specs.Rows.RowTrees.{program_of}
 use Rattle.rg_loading.specs.Files.{CownsCome, memory}
-use Rattle.rg_loading.proofs.Coming.{Lead, status-ends, same-after, start-before, one-leads, all-lead}
+use Rattle.rg_loading.proofs.Coming.{status-ends, same-after, start-before, one-leads, all-lead}
 use Rattle.rg_loading.proofs.Read.{is-read}
 use Rattle.rg_loading.proofs.images.images_in.Given.{Over}
 use Rattle.rg_loading.proofs.images.images_in.Goals.{After-loop-i}
@@ -25,11 +25,11 @@ loop-i-preserved g c =
     let cowns = c.args.plan.now.cowns in
     let cown = c.cown.result.now in
     let has = start-before told mid t cown cown.start (Ok c.in-Ok.content) now.invariant.same c.in-Ok.ensures.brings in
-    let lead = one-leads told t cowns now.i now.images.items cown c.in-Ok.content c.cown.ensures has now.invariant.lead in
     record {
       same = same-after told mid (g.F.Files.told c.content_in.new.files) now.invariant.same c.content_in.ensures.same_files;
       rising = omega (arith, now.invariant.rising, c.content_in.ensures.never_fall);
-      lead = subst (Lead told t cowns (now.i + 1)) (sym c.in-Ok-push.ensures.items) lead;
+      lead = one-leads told t cowns now.i now.images.items c.push.new.self.items cown c.in-Ok.content c.cown.ensures has c.in-Ok-push.ensures.items
+          now.invariant.lead;
     }
 
 -- what the cowns come to behind the last one

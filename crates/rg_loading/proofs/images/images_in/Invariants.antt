@@ -1,4 +1,4 @@
-use Rattle.std.proofs.Common.{◌≡◌, ◌≤◌}
+use Rattle.std.proofs.Common.{◌≤◌}
 use Rattle.rg_io.specs.Files.{SameFiles}
 use Rattle.rg_tree.specs.Rows.RowTrees.{program_of}
 use Rattle.rg_loading.proofs.Coming.{Lead}
