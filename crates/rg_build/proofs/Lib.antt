@@ -1,4 +1,4 @@
--- Lemmas on the module of a program, and programs with their modules, computed.
+-- Lemmas on the module of a program, and programs with their modules, computed; those with pub are for crates above.
 mod Class
 mod LayingSteps
 mod Counting
@@ -8,7 +8,7 @@ mod Quiet
 mod Follows
 mod Near
 mod Short
-mod Spelt
+pub mod Spelt
 mod Environments
 mod Points
 pub mod Marks

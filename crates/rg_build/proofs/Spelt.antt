@@ -61,7 +61,7 @@ laid-length : (ops : List Op) (maps : List (List Ty)) → length (laid ops maps)
 laid-length [] maps = refl
 laid-length (o ∷ os) maps = ap suc (laid-length os (maps_behind (is_mark (Some o)) maps))
 
-zip-length : (ops : List Op) (maps : List (List Ty)) → length (zip ops (laid ops maps)) ≡ length ops
+pub zip-length : (ops : List Op) (maps : List (List Ty)) → length (zip ops (laid ops maps)) ≡ length ops
 zip-length [] maps = refl
 zip-length (o ∷ os) maps = ap suc (zip-length os (maps_behind (is_mark (Some o)) maps))
 
@@ -88,7 +88,7 @@ entries-length : (at : ℕ) (hs : List Head) (ops : List Op) → length (entries
 entries-length at [] ops = refl
 entries-length at (h ∷ hs) ops = ap suc (entries-length (at + length (body ops)) hs (drop (length (body ops)) ops))
 
-heads-length : (t : Tree) → Accepted t → length (heads_of t.classes) ≡ length (lowered t).entries
+pub heads-length : (t : Tree) → Accepted t → length (heads_of t.classes) ≡ length (lowered t).entries
 heads-length t a =
     let ops = (lowered t).ops in
     sym (ap (λ (c : Code). length c.entries) (code-follows t a)
