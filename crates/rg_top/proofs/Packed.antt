@@ -1,6 +1,5 @@
 -- The bytes of a program's module mean programs that raise it, and these have its runs.
-use Rattle.std.proofs.Common.{◌≡◌, refl, sym, ap, ◌∙◌, subst, ℕ, ◌≤◌, inl, inr, Bool, List, length, Some, None, arith}
-use Rattle.rg_base.specs.declared.outcome.EndNumbers.{EndNumbers}
+use Rattle.std.proofs.Common.{◌≡◌, refl, sym, ap, ◌∙◌, subst, ℕ, ◌≤◌, List, length, arith}
 use Rattle.rg_base.specs.Text.{text}
 use Rattle.rg_base.specs.declared.value.Val.{Val}
 use Rattle.rg_tree.specs.Tree.{Tree}
@@ -12,13 +11,13 @@ use Rattle.rg_module.specs.Laws.{SpellsOneModule}
 use Rattle.rg_build.specs.ModuleOf.{module_of}
 use Rattle.rg_raised.specs.Raises.{Raises}
 use Rattle.rg_packed.specs.Laws.{IsOfSource, PackedSpellsModule, PackedIsRaised, OneModuleOneRun}
-use Rattle.rg_words.specs.Commands.{run, exec}
+use Rattle.rg_words.specs.Commands.{exec}
 use Rattle.rg_words.specs.declared.limits.TheConstants.{MODULE_BYTES}
 use Rattle.rg_words.specs.Answers.{Answer}
-use Rattle.rg_sources.specs.Sources.{Meaning, too_long, faulty, spelt, planned, HasModule, HasProgram, MeansModule}
+use Rattle.rg_sources.specs.Sources.{Meaning, too_long, faulty, spelt, planned, HasModule, MeansModule}
 use Rattle.rg_sources.proofs.Meaning.{no-program}
 use Rattle.rg_commands.specs.Expected.{status_of, run_answer, unless_fault, packed_text, expected}
-use Rattle.rg_top.specs.Packed.{RunsAs, PackedRunsAs}
+use Rattle.rg_top.specs.Packed.{PackedRunsAs}
 
 -- bytes that spell a module which a program raises mean programs that raise it, and nothing else
 meant : SpellsOneModule → (bytes : List ℕ) (parts : Parts) (t : Tree) → HasModule bytes parts → Raises parts t → length bytes ≤ MODULE_BYTES →
