@@ -1,14 +1,13 @@
 -- How many parts a program has that is within the limits, and what its classes, methods and instructions are numbered with.
-use Rattle.std.proofs.Common.{◌≡◌, refl, sym, ap, subst, ℕ, zero, suc, ◌+◌, ◌<◌, ◌≤◌, ◌^◌, Bool as Truth, true, false, if◌then◌else◌, bytes_eq}
-use Rattle.std.proofs.Common.{List, [], ◌∷◌, ◌++◌, length, map, filter_map, slice_get, Option, Some, None, option_map, codes, length-append, arith}
+use Rattle.std.proofs.Common.{◌≡◌, refl, ap, ℕ, zero, suc, ◌+◌, ◌<◌, ◌≤◌, ◌^◌, Bool as Truth, true, false, if◌then◌else◌, bytes_eq}
+use Rattle.std.proofs.Common.{List, [], ◌∷◌, ◌++◌, length, map, filter_map, Option, Some, None, option_map, codes, length-append, arith}
 use Rattle.std.specs.List.{flat_map, AllByRecursion}
 use Rattle.rg_base.specs.declared.limits.TheConstants.{CLASSES, CLASS_FIELDS}
 use Rattle.rg_base.specs.declared.ty.Ty.{Ty}
-use Rattle.rg_tree.specs.Tree.{Name, Ty as Written, int, bool, ref, Method, Member, field, method, Class, Tree}
-use Rattle.rg_rules.specs.Types.{class_number, type_of, field_member, members_of, fields_of, method_named}
-use Rattle.rg_limits.specs.Parts.{HasFewMembers, HasFewParts}
+use Rattle.rg_tree.specs.Tree.{Name, Ty as Written, int, bool, ref, Method, Member, field, method, Class}
+use Rattle.rg_rules.specs.Types.{class_number, type_of, field_member, fields_of, method_named}
+use Rattle.rg_limits.specs.Parts.{HasFewMembers}
 use Rattle.rg_code.specs.Lowering.{method_place, methods_among, method_number, number_called}
-use Rattle.rg_spell.specs.declared.rows.Shape.{Shape}
 use Rattle.rg_spell.specs.declared.rows.Head.{Head}
 use Rattle.rg_spell.specs.Spelling.{manager_number, four, counted, ty_bytes, cap_number, result_bytes, shape_bytes, head_bytes, row_bytes, FitsTy}
 use Rattle.rg_spell.specs.Spelling.{FitsMembers, FitsShape}

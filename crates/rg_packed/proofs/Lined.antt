@@ -1,5 +1,5 @@
 -- Programs whose marks have lines that are bounded, and whose array classes have no members: such is what a source spells.
-use Rattle.std.proofs.Common.{◌≡◌, refl, ℕ, ◌≤◌, List, [], Option, Some, None}
+use Rattle.std.proofs.Common.{◌≡◌, ℕ, ◌≤◌, List, [], Option, Some, None}
 use Rattle.std.specs.List.{AllByRecursion}
 use Rattle.rg_tree.specs.Tree.{Ty, Expr, Path, Right, Stmt, stmt, StmtKind, declare, assign, assign_element, call, swap, branch, while, enter, print}
 use Rattle.rg_tree.specs.Tree.{collect, return, Else, no_else, otherwise, Block, empty, then as next, Member, field, method, Class, Tree}

@@ -1,6 +1,6 @@
 -- The numbers in the code of a program have spellings, those of slots and addresses aside, where its lines, numbers and parts are bounded.
-use Rattle.std.proofs.Common.{◌≡◌, refl, sym, subst, ℕ, ℤ, pos, negsuc, zero, suc, ◌+◌, ◌<◌, ◌≤◌, ◌^◌, Bool as Truth, true, false, if◌then◌else◌, bytes_eq}
-use Rattle.std.proofs.Common.{List, [], ◌∷◌, ◌++◌, length, map, All, Option, Some, None, option_map, option_to_list, unwrap_or, unsigned_abs, arith}
+use Rattle.std.proofs.Common.{sym, subst, ℕ, ℤ, pos, negsuc, suc, ◌+◌, ◌<◌, ◌≤◌, ◌^◌, Bool as Truth, true, false, if◌then◌else◌, bytes_eq}
+use Rattle.std.proofs.Common.{List, [], ◌∷◌, ◌++◌, length, All, Option, Some, None, option_map, option_to_list, unwrap_or, unsigned_abs, arith}
 use Rattle.std.proofs.lemmas.Int.{ints}
 use Rattle.std.proofs.lemmas.List.Elements.{All-head, All-tail}
 use Rattle.std.specs.List.{AllByRecursion}
@@ -18,7 +18,7 @@ use Rattle.rg_tree.specs.Tree.{Block, empty as none, then as next, Field, Method
 use Rattle.rg_rules.specs.Capabilities.{is_iso}
 use Rattle.rg_rules.specs.Paths.{all_but_last, last_field}
 use Rattle.rg_rules.specs.Types.{class_number, field_place, fields_of}
-use Rattle.rg_limits.specs.Each.{right_exprs, own_exprs, HoldsWithin, HoldsBehind, HoldsInBlock, HoldsInMember}
+use Rattle.rg_limits.specs.Each.{right_exprs, HoldsWithin, HoldsBehind, HoldsInBlock, HoldsInMember}
 use Rattle.rg_limits.specs.Numbers.{HasSmall, HasOwnSmall}
 use Rattle.rg_code.specs.declared.op.Op.{Op}
 use Rattle.rg_code.specs.declared.op.Op.TheVariants as i

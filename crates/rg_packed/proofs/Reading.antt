@@ -1,5 +1,5 @@
 -- What a source spells has lines that are bounded, and its array classes have no members.
-use Rattle.std.proofs.Common.{◌≡◌, refl, ℕ, suc, ◌≤◌, List, length, Ok}
+use Rattle.std.proofs.Common.{◌≡◌, refl, ℕ, suc, List, length, Ok}
 use Rattle.std.specs.List.{AllByRecursion}
 use Rattle.rg_base.specs.declared.token.Token.{Token}
 use Rattle.rg_base.specs.Tokens.{cut}

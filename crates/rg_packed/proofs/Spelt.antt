@@ -1,8 +1,7 @@
 -- The module of a program that a source spells is one that bytes spell, where these are few enough to be counted.
-use Rattle.std.proofs.Common.{◌≡◌, refl, sym, ap, ◌∙◌, subst, ℕ, suc, ◌<◌, ◌≤◌, ◌^◌, List, [], ◌∷◌, ◌++◌, length, All, Ok, arith}
+use Rattle.std.proofs.Common.{refl, ℕ, ◌<◌, ◌^◌, List, [], ◌∷◌, length, All, arith}
 use Rattle.std.proofs.lemmas.List.Elements.{All-from_recursion, recursion_from_All}
 use Rattle.std.specs.List.{AllByRecursion}
-use Rattle.rg_base.specs.declared.limits.TheConstants.{SOURCE_BYTES}
 use Rattle.rg_tree.specs.Tree.{Tree}
 use Rattle.rg_rules.specs.Acceptance.{Accepted}
 use Rattle.rg_limits.specs.Limits.{IsWithinLimits}
@@ -13,14 +12,13 @@ use Rattle.rg_code.specs.declared.operands.Operand.TheVariants as p
 use Rattle.rg_code.specs.Operands.{operands_of}
 use Rattle.rg_code.specs.Lowering.{block_code, main_code, methods_code, lowered}
 use Rattle.rg_spell.specs.Spelling.{FitsOperand, FitsOp}
-use Rattle.rg_module.specs.Parts.{Parts}
 use Rattle.rg_module.specs.Spelling.{spelling, IsSpelt}
 use Rattle.rg_build.specs.Inner.Near.{IsNearOperand, IsNear}
 use Rattle.rg_build.specs.Maps.{maps_of}
 use Rattle.rg_build.specs.ModuleOf.{heads_of, module_of}
 use Rattle.rg_build.proofs.Spelt.{zip-length, heads-length, module-spelt, ops-near}
 use Rattle.rg_packed.proofs.Lined.{IsLined}
-use Rattle.rg_packed.proofs.Numbers.{FitsAside, Aside, AreAside, AreBounded, aside-then, mark-aside, block-aside, methods-aside}
+use Rattle.rg_packed.proofs.Numbers.{FitsAside, AreAside, AreBounded, aside-then, mark-aside, block-aside, methods-aside}
 use Rattle.rg_packed.proofs.Bounds.{class-few, fields-few, called-few, shapes-fit, parts-short}
 
 -- Instructions whose slots and addresses are near, and whose other numbers have spellings

@@ -1,6 +1,5 @@
 -- Of what a source spells, the bytes of its module spell it, and a program raises it.
-use Rattle.std.proofs.Common.{◌≡◌, refl, ℕ, suc, ◌<◌, ◌≤◌, ◌^◌, List, length, Ok, arith}
-use Rattle.rg_base.specs.declared.limits.TheConstants.{SOURCE_BYTES}
+use Rattle.std.proofs.Common.{refl, ℕ, suc, List, length, arith}
 use Rattle.rg_tree.specs.Tree.{Tree}
 use Rattle.rg_limits.specs.Limits.{IsWithinLimits}
 use Rattle.rg_within.specs.Laws.{SpeltIsWithinLimits, SpeltOpensFew}
