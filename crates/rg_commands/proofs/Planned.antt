@@ -1,5 +1,5 @@
 -- A plan that comes from a file is read for its program.
-use Rattle.std.proofs.Common.{◌≡◌, ℕ, List, length, Ok}
+use Rattle.std.proofs.Common.{◌≡◌, ℕ, List, [], length, Ok}
 use Rattle.std.proofs.lemmas.List.{length-replicate}
 use Rattle.rg_tree.specs.Tree.{Tree}
 use Rattle.rg_cown.specs.Cargo.{CargoList}

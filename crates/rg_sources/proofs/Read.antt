@@ -25,11 +25,11 @@ use Rattle.rg_sources.specs.Brings.{Refuses, Found, Raised, Judged, RefusesProgr
 use Rattle.rg_sources.proofs.Meaning.{no-faults}
 
 -- the bytes of one file
-pub alone : List ℕ → Sources
+abbrev pub alone : List ℕ → Sources
 alone bytes = record { file = bytes; plan = [] }
 
 -- there are lists of any length
-long-list : (n : ℕ) → (source : List ℕ) × (n < length source)
+abbrev long-list : (n : ℕ) → (source : List ℕ) × (n < length source)
 long-list n = (replicate (suc n) 0, omega (arith, length-replicate {A = ℕ} (suc n) 0))
 
 -- a file that is too long is read as some source that is

@@ -585,7 +585,7 @@ schedule-status told c left s old new m r = go s r.settles (schedule-of told c l
 
 -- a schedule that is refused has written nothing
 pub schedule-refused : (told : Option Told) (c : Command) (left : Option (List ℕ)) (f : Fault) (old new : Option (List ℕ)) (m : Kept)
-    (r : RanSchedule told c left (status.Refused f) old new m) → (is_scheduled c ≡ true) × ((IsBadSchedule (status.Refused f)) × (new ≡ old))
+    (r : RanSchedule told c left (status.Refused f) old new m) → (is_scheduled c ≡ true) × IsBadSchedule (status.Refused f) × (new ≡ old)
 schedule-refused told c left f old new m r =
     let said = schedule_of (length r.plan.behaviours) r.settles.0 in
     let bad = said-refused r.tree r.plan said (status.Refused f) r.settles.2.0 refl r.settles.2.1 in (
@@ -594,6 +594,6 @@ schedule-refused told c left f old new m r =
       silent old new r.settles.2.0 bad.1 r.settles.2.2,
     )
   where
-    silent : (old new : Option (List ℕ)) (text : List ℕ) → text ≡ [] → Appends old new text → new ≡ old
-    silent None new text none h = h
-    silent (Some xs) new text none h = h ∙ ap (λ q. Some (xs ++ q)) none ∙ ap Some (append-nil xs)
+    silent : (old new : Option (List ℕ)) (bytes : List ℕ) → bytes ≡ [] → Appends old new bytes → new ≡ old
+    silent None new bytes none h = h
+    silent (Some xs) new bytes none h = h ∙ ap (λ q. Some (xs ++ q)) none ∙ ap Some (append-nil xs)

@@ -1,60 +1,85 @@
--- Short plans and schedules for one program, computed: what `when` answers to them.
-use Rattle.std.proofs.Common.{◌≡◌, refl, ℕ, false, List, [], ◌∷◌, ◌++◌, None, Ok, Err, codes}
+-- Short plans and schedules, computed: what `when` answers to them.
+use Rattle.std.specs.Fmt.{digits}
+use Rattle.std.proofs.Common.{◌≡◌, refl, List, [], ◌∷◌, Ok, Err, codes}
 use Prim.Native.String.{String}
 use Rattle.rg_base.specs.declared.fault.Code.TheVariants.{Plan, Schedule}
-use Rattle.rg_base.specs.declared.words.Cap.TheVariants as cap
-use Rattle.rg_base.specs.declared.words.Manager.TheVariants as manager
-use Rattle.rg_tree.specs.Tree.{int, Tree}
-use Rattle.rg_rules.proofs.Sources.{to, field_named, method_named, class_named, program}
+use Rattle.rg_rules.specs.Runs.{plain_from}
+use Rattle.rg_cown.specs.Contents.{read_on}
 use Rattle.rg_plan.specs.Plans.{Read, PlanOf}
 use Rattle.rg_plan.specs.Rules.{plan_of}
-use Rattle.rg_schedule.specs.declared.limits.TheConstants.{SCHEDULE}
-use Rattle.rg_words.specs.declared.limits.TheConstants.{MOST_NUMBERS}
+use Rattle.rg_schedule.specs.Schedules.{Whole, BadAt, TooLong, schedule_of, schedule_from}
 use Rattle.rg_words.specs.declared.status.Status.TheVariants as status
 use Rattle.rg_words.specs.Answers.{Answer, refused}
 use Rattle.rg_when.specs.Scheduled.{schedule_answer}
+use Rattle.rg_when.proofs.Counter.{counted, lines, two}
 
--- lines, each with its end
-abbrev lines : List String → List ℕ
-lines [] = []
-lines (s ∷ ss) = codes s ++ 10 ∷ lines ss
+-- What inputs say as schedules
 
--- `class N { v: int; } class A { n: iso N; def mut add() { } } main arena { }`
-abbrev counted : Tree
-counted =
-    program (class_named "N" false (field_named "v" int ∷ [])
-    ∷ class_named "A" false (field_named "n" (to cap.Iso "N") ∷ method_named cap.Mut "add" [] None [] ∷ []) ∷ []) manager.Arena []
+numbers : schedule_of 2 (codes " 0 1 0") ≡ Whole (0 ∷ 1 ∷ 0 ∷ [])
+unfolding schedule_from
+numbers = refl
+
+no_behaviour : schedule_of 2 (codes "0 2 x") ≡ BadAt 2
+unfolding schedule_from
+no_behaviour = refl
+
+no_number : schedule_of 2 (codes "x") ≡ BadAt 1
+unfolding schedule_from
+no_number = refl
+
+below_nothing : schedule_of 2 (codes "0 0 -1") ≡ BadAt 3
+unfolding schedule_from
+below_nothing = refl
+
+-- where two numbers may come at most
+two_of_two : schedule_from 2 2 [] (codes "0 1") ≡ Whole (0 ∷ 1 ∷ [])
+unfolding schedule_from
+two_of_two = refl
+
+three_of_two : schedule_from 2 2 [] (codes "0 1 0") ≡ TooLong
+unfolding schedule_from
+three_of_two = refl
+
+-- whatever comes third
+no_number_behind_two : schedule_from 2 2 [] (codes "0 1 x") ≡ TooLong
+unfolding schedule_from
+no_number_behind_two = refl
+
+-- What `when` answers
 
 abbrev by_plan : Read PlanOf → (input : String) → Answer
 by_plan (Ok p) input = schedule_answer counted p (codes input)
 by_plan (Err line) input = refused (record { code = Plan; line = line })
 
--- the answer to the lines of a plan and a schedule
+-- the answer to the lines of a plan and an input
 abbrev to_plan : List String → (input : String) → Answer
 to_plan ss input = by_plan (plan_of counted (lines ss)) input
 
-abbrev two : List String
-two = "cown N arena" ∷ "when A.add 0" ∷ "when A.add 0" ∷ []
+-- the text of these lines
+abbrev told : List String → Answer
+told ss = record { status = status.Done; text = lines ss }
 
-nothing_begins : to_plan two "" ≡ record { status = status.Done; text = lines ("behaviour 0 A.add waiting" ∷ "behaviour 1 A.add waiting" ∷ []) }
+both_done : to_plan two "0 1 0 0 0 0 0 0 1 1 1 1 1 1 1" ≡ told ("behaviour 0 A.add done" ∷ "1" ∷ "behaviour 1 A.add done" ∷ "2" ∷ [])
+unfolding digits plain_from read_on schedule_from
+both_done = refl
+
+one_waits : to_plan two "0 1 0" ≡ told ("behaviour 0 A.add running" ∷ "behaviour 1 A.add waiting" ∷ [])
+unfolding digits plain_from read_on schedule_from
+one_waits = refl
+
+nothing_begins : to_plan two "" ≡ told ("behaviour 0 A.add waiting" ∷ "behaviour 1 A.add waiting" ∷ [])
+unfolding digits plain_from read_on schedule_from
 nothing_begins = refl
 
--- the second one waits for the first
-one_begins : to_plan two "0 1 1" ≡ record { status = status.Done; text = lines ("behaviour 0 A.add running" ∷ "behaviour 1 A.add waiting" ∷ []) }
-one_begins = refl
+-- the text has behaviours by their numbers, in whatever order they began
+the_second_begins_first : to_plan ("cown N arena" ∷ "cown N arena" ∷ "when A.add 0" ∷ "when A.add 1" ∷ []) "1 0"
+    ≡ told ("behaviour 0 A.add running" ∷ "behaviour 1 A.add running" ∷ [])
+unfolding digits plain_from read_on schedule_from
+the_second_begins_first = refl
 
-no_behaviour : to_plan two "0 2" ≡ refused (record { code = Schedule; line = 2 })
-no_behaviour = refl
+bad_schedule : to_plan two "0 2" ≡ refused (record { code = Schedule; line = 2 })
+unfolding schedule_from
+bad_schedule = refl
 
-no_number : to_plan two "x" ≡ refused (record { code = Schedule; line = 1 })
-no_number = refl
-
-below_nothing : to_plan two "0 0 -1" ≡ refused (record { code = Schedule; line = 3 })
-below_nothing = refl
-
-no_cown : to_plan ("when A.add 0" ∷ []) "" ≡ refused (record { code = Plan; line = 1 })
-no_cown = refl
-
--- the step that is told where a schedule is too long is the number of numbers that are taken
-most_numbers : MOST_NUMBERS ≡ SCHEDULE
-most_numbers = refl
+bad_plan : to_plan ("when A.add 0" ∷ []) "" ≡ refused (record { code = Plan; line = 1 })
+bad_plan = refl

@@ -1,3 +1,6 @@
--- The lemmas that the answers of rg_when use; none is for crates above.
-mod Scheduled
+-- The lemmas that the answers of rg_when use; Input, Told and Counter are for crates above.
+pub mod Input
+pub mod Told
+mod Settled
+pub mod Counter
 mod Examples

@@ -1,2 +1,3 @@
--- What a plan with a schedule answers (docs/promises.md, "The headline").
+-- The definitions that the clauses of rg_when name (docs/promises.md, "The headline").
 pub mod Scheduled
+pub mod Inner

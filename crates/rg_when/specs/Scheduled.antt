@@ -2,10 +2,11 @@
 use Rattle.std.specs.Prelude.{◌≡◌, ℕ, List, [], length, replicate, Option}
 use Rattle.rg_base.specs.declared.fault.Code.TheVariants.{Schedule}
 use Rattle.rg_io.specs.Content.{Appends, AppendsPart}
-use Rattle.rg_tree.specs.Tree.{Tree}
+use Rattle.rg_tree.specs.Tree.{Class, Tree}
 use Rattle.rg_cown.specs.Cargo.{CargoList}
 use Rattle.rg_plan.specs.Plans.{PlanOf}
-use Rattle.rg_sched.specs.Settings.{setting_of}
+use Rattle.rg_sched.specs.Settings.{Setting, setting_of}
+use Rattle.rg_sched.specs.Atomic.{Told, World, atomic}
 use Rattle.rg_sched.specs.Events.{world_after}
 use Rattle.rg_schedule.specs.Schedules.{Schedule as Said, Whole, BadAt, TooLong, schedule_of}
 use Rattle.rg_world_text.specs.Text.{world_text}
@@ -13,42 +14,69 @@ use Rattle.rg_words.specs.declared.status.Status.{Status}
 use Rattle.rg_words.specs.declared.status.Status.TheVariants as status
 use Rattle.rg_words.specs.Answers.{Answer, refused, ForInput}
 
--- what begins with an image, if nothing does
+-- what a world tells: behaviours are done one after another, in the order in which they began in it, each with as many steps as it has tried of it
+abbrev pub one_by_one : List Class → Setting → World → Told
+one_by_one classes s w = atomic classes s w.began w.turns
+
+-- what is told of a plan behind a schedule
+abbrev pub told_behind : Tree → PlanOf → (images : List CargoList) → (numbers : List ℕ) → Told
+told_behind t p images numbers =
+    one_by_one t.classes (setting_of t.classes p images) (world_after t.classes (setting_of t.classes p images) numbers)
+
+-- its text: how each behaviour stands, and what it printed
+abbrev pub text_behind : Tree → PlanOf → (images : List CargoList) → (numbers : List ℕ) → List ℕ
+text_behind t p images numbers = world_text p (told_behind t p images numbers)
+
+-- What a program with a plan answers to a schedule: the text of what is told behind all its numbers. Else nothing is written: at the first item that
+-- is no number of a behaviour the schedule has a fault, and one that has more numbers than are taken is cut short.
+abbrev pub said_with : Tree → PlanOf → (images : List CargoList) → Said → Answer
+said_with t p images (Whole numbers) = record { status = status.Done; text = text_behind t p images numbers }
+said_with t p images (BadAt item) = refused (record { code = Schedule; line = item })
+said_with t p images TooLong = record { status = status.Spent; text = [] }
+
+-- the schedule is what the input says, the numbers of the plan's behaviours
+abbrev pub answer_with : Tree → PlanOf → (images : List CargoList) → (input : List ℕ) → Answer
+answer_with t p images input = said_with t p images (schedule_of (length p.behaviours) input)
+
+-- the images of a plan that names none: for each cown a content, of which none counts
 abbrev pub no_images : PlanOf → List CargoList
 no_images p = replicate (length p.cowns) (record { cells = []; managers = [] })
 
--- What a program with a plan answers to a schedule: the text of the world behind all its numbers. Else nothing is written: at the first item that is
--- no number of a behaviour the schedule has a fault, and one that has more numbers than are taken is cut short.
+-- the answers of a plan that names none
 abbrev pub said_answer : Tree → PlanOf → Said → Answer
-said_answer t p (Whole numbers) = record {
-  status = status.Done;
-  text = world_text p (world_after t.classes (setting_of t.classes p (no_images p)) numbers).told;
-}
-said_answer t p (BadAt item) = refused (record { code = Schedule; line = item })
-said_answer t p TooLong = record { status = status.Spent; text = [] }
+said_answer t p said = said_with t p (no_images p) said
 
--- the schedule is what the input says, the numbers of the plan's behaviours
 abbrev pub schedule_answer : Tree → PlanOf → (input : List ℕ) → Answer
 schedule_answer t p input = said_answer t p (schedule_of (length p.behaviours) input)
 
--- the answer to a schedule is expected of the input, and its text was written
-abbrev pub Scheduled : Tree → PlanOf → (left : Option (List ℕ)) → Status → (old new : Option (List ℕ)) → Type 0
-Scheduled t p left s old new = ForInput left
-    (λ input. (text : List ℕ) × (schedule_answer t p input ≡ record { status = s; text = text }) × Appends old new text)
+-- the answer is expected of the input, and its text was written
+abbrev pub Answered : (expected : List ℕ → Answer) → (left : Option (List ℕ)) → Status → (old new : Option (List ℕ)) → Type 0
+Answered expected left s old new =
+    ForInput left (λ input. (text : List ℕ) × (expected input ≡ record { status = s; text = text }) × Appends old new text)
 
 -- a part of the text was written that is expected of the input
-abbrev pub ScheduledPart : Tree → PlanOf → (left old new : Option (List ℕ)) → Type 0
-ScheduledPart t p left old new = ForInput left (λ input. AppendsPart old new (schedule_answer t p input).text)
+abbrev pub AnsweredPart : (expected : List ℕ → Answer) → (left old new : Option (List ℕ)) → Type 0
+AnsweredPart expected left old new = ForInput left (λ input. AppendsPart old new (expected input).text)
 
--- what was answered to the schedule of a plan, and given to the output
+-- what was answered to an input, and given to the output: what is expected of it, but for faults and want of memory
+abbrev pub SettlesBy : (expected : List ℕ → Answer) → (left : Option (List ℕ)) → Status → (old new : Option (List ℕ)) → Type 0
+SettlesBy expected left status.Done old new = Answered expected left status.Done old new
+SettlesBy expected left (status.Refused f) old new = Answered expected left (status.Refused f) old new
+SettlesBy expected left status.Usage old new = ⊥
+SettlesBy expected left (status.Trap kind line) old new = ⊥
+SettlesBy expected left status.Spent old new = Answered expected left status.Spent old new
+SettlesBy expected left status.SourceFault old new = ⊥
+SettlesBy expected left status.InputFault old new = new ≡ old
+SettlesBy expected left status.OutputFault old new = AnsweredPart expected left old new
+SettlesBy expected left status.Memory old new = AnsweredPart expected left old new
+SettlesBy expected left status.Long old new = ⊥
+
+-- the same of a plan that names no image
+abbrev pub Scheduled : Tree → PlanOf → (left : Option (List ℕ)) → Status → (old new : Option (List ℕ)) → Type 0
+Scheduled t p left s old new = Answered (schedule_answer t p) left s old new
+
+abbrev pub ScheduledPart : Tree → PlanOf → (left old new : Option (List ℕ)) → Type 0
+ScheduledPart t p left old new = AnsweredPart (schedule_answer t p) left old new
+
 abbrev pub SettlesSchedule : Tree → PlanOf → (left : Option (List ℕ)) → Status → (old new : Option (List ℕ)) → Type 0
-SettlesSchedule t p left status.Done old new = Scheduled t p left status.Done old new
-SettlesSchedule t p left (status.Refused f) old new = Scheduled t p left (status.Refused f) old new
-SettlesSchedule t p left status.Usage old new = ⊥
-SettlesSchedule t p left (status.Trap kind line) old new = ⊥
-SettlesSchedule t p left status.Spent old new = Scheduled t p left status.Spent old new
-SettlesSchedule t p left status.SourceFault old new = ⊥
-SettlesSchedule t p left status.InputFault old new = new ≡ old
-SettlesSchedule t p left status.OutputFault old new = ScheduledPart t p left old new
-SettlesSchedule t p left status.Memory old new = ScheduledPart t p left old new
-SettlesSchedule t p left status.Long old new = ⊥
+SettlesSchedule t p left s old new = SettlesBy (schedule_answer t p) left s old new
