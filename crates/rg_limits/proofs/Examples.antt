@@ -14,6 +14,8 @@ use Rattle.rg_limits.specs.Each.{own_exprs}
 use Rattle.rg_limits.specs.Signs.{expr_signs, exprs_signs, HasFewSigns}
 use Rattle.rg_limits.specs.Numbers.{HasSmall}
 use Rattle.rg_limits.specs.Brackets.{most_open}
+use Rattle.rg_limits.specs.Opens.{expr_opens, tree_opens}
+use Rattle.rg_limits.specs.Bare.{IsBareTree}
 
 abbrev one : Expr
 one = number (pos 1)
@@ -71,6 +73,9 @@ in_a_text = next (stmt 1 (print (binary Mul (binary Or (boolean true) (boolean t
 two_open : most_open (canon (main in_a_text)) ≡ 2
 two_open = refl
 
+two_by_parts : tree_opens (main in_a_text) ≡ 2
+two_by_parts = refl
+
 -- so many blocks in one another
 abbrev nested : ℕ → Block
 nested zero = empty
@@ -78,6 +83,34 @@ nested (suc n) = next (stmt 1 (while (boolean true) (nested n))) empty
 
 a_block_opens_one : most_open (canon (main (nested 2))) ≡ 3
 a_block_opens_one = refl
+
+as_many_blocks_as_may_be : tree_opens (main (nested 63)) ≡ BRACKETS
+as_many_blocks_as_may_be = refl
+
+-- `not`s in one another: the first stands bare
+abbrev nots : ℕ → Expr
+nots zero = boolean true
+nots (suc n) = not (nots n)
+
+sixty_four_nots : expr_opens (nots 64) ≡ 63
+sixty_four_nots = refl
+
+-- so main's braces, and these parentheses, are as many as may be, and one more is too many
+as_many_nots_as_may_be : tree_opens (main (next (stmt 1 (print (nots 64))) empty)) ≡ BRACKETS
+as_many_nots_as_may_be = refl
+
+one_not_too_many : tree_opens (main (next (stmt 1 (print (nots 65))) empty)) ≡ BRACKETS + 1
+one_not_too_many = refl
+
+-- `not` and `-` in turn, 1 + 1 * 1, and (1 + 1) * 1
+a_minus_is_bare : expr_opens (not (neg one)) ≡ 0
+a_minus_is_bare = refl
+
+bare_product : expr_opens (binary Add one (binary Mul one one)) ≡ 0
+bare_product = refl
+
+sum_in_parentheses : expr_opens (binary Mul (binary Add one one) one) ≡ 1
+sum_in_parentheses = refl
 
 as_many_open_as_may_be : most_open (replicate 64 40) ≡ BRACKETS
 as_many_open_as_may_be = refl
@@ -92,6 +125,45 @@ its_depth = refl
 names_of_a_body : block_names (next (stmt 1 (declare (codes "a") int (value one))) (next (stmt 2 (enter x (codes "b") (next (stmt 3 (declare (codes
     "c") int (value one))) empty) None)) empty)) ≡ 3
 names_of_a_body = refl
+
+-- Classes: those of `class a [int];`, and those of `class b { def mut m() { .. } }`.
+
+abbrev with_class : Block → Tree
+with_class body = record {
+  classes =
+      record { name = codes "a"; is_tmp = false; element = Some int; members = []; line = 1 }
+      ∷ record {
+        name = codes "b";
+        is_tmp = false;
+        element = None;
+        members = method (record { receiver = Mut; name = codes "m"; params = []; result = None; body = empty; line = 2 }) ∷ [];
+        line = 1;
+      } ∷ [];
+  manager = Arena;
+  body = body;
+  line = 4;
+}
+
+-- the braces of class b, and its method's
+empty_main : tree_opens (with_class empty) ≡ 2
+empty_main = refl
+
+empty_text : most_open (canon (with_class empty)) ≡ 2
+empty_text = refl
+
+-- main's braces, those of `while`, an index, and parentheses
+abbrev deep : Tree
+deep = with_class (next (stmt 5 (while (boolean false) (next (stmt 6 (print (element x (binary Mul (binary Add one one) one)))) empty))) empty)
+
+deep_main : tree_opens deep ≡ 4
+deep_main = refl
+
+-- its names have no brackets
+deep_bare : IsBareTree deep
+deep_bare = record {
+  classes = (record { name = refl; members = (tt, refl) }, (record { name = refl; members = ((refl, tt, tt, tt), tt) }, tt));
+  body = ((tt, ((record { base = refl; fields = tt }, ((omega arith, omega arith), omega arith)), tt)), tt);
+}
 
 -- Parts: the parameters of each method are tested, and the number of fields and of methods apart.
 

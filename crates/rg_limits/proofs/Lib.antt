@@ -1,10 +1,10 @@
--- Lemmas on what is counted down, on lists, on brackets, on what is tested together, and on lines; and examples.
+-- Lemmas on what is counted down, on lists, on what is tested together, on lines, and on the brackets of canonical text; and examples.
 mod Leaving
 mod Telling
-mod Opened
 mod Together
 mod Lineless
-mod Moves
-mod EvenTexts
-mod BlocksOpen
+mod Levels
+mod Texts
+mod PartTexts
+mod TreeTexts
 mod Examples

@@ -1,5 +1,5 @@
 -- The limits say the same of a program without the lines that no mark has.
-use Rattle.std.proofs.Common.{◌≡◌, refl, sym, ap, ◌∙◌, subst, ℕ, suc, ◌≤◌, List, [], ◌∷◌, length, map, filter_map, All}
+use Rattle.std.proofs.Common.{◌≡◌, refl, sym, ap, ◌∙◌, subst, ℕ, suc, ◌≤◌, max, List, [], ◌∷◌, length, map, filter_map, All}
 use Rattle.std.specs.List.{AllByRecursion}
 use Rattle.std.proofs.lemmas.List.{length-map}
 use Rattle.std.proofs.lemmas.List.Elements.{recursion_from_All, All-from_recursion}
@@ -7,11 +7,10 @@ use Rattle.rg_base.specs.declared.limits.TheConstants.{BRACKETS, CLASSES, CLASS_
 use Rattle.rg_tree.specs.Tree.{StmtKind, Method, Member, field, method, Class, Tree}
 use Rattle.rg_rules.specs.Types.{field_member, method_member}
 use Rattle.rg_lines.specs.Unlined.{method_unlined, member_unlined, class_unlined, classes_unlined, unlined, SameButLines}
-use Rattle.rg_lines.specs.Laws.{SameText, SameNames}
+use Rattle.rg_lines.specs.Laws.{SameNames}
 use Rattle.rg_limits.specs.Parts.{HasFewMembers, HasFewParts}
-use Rattle.rg_limits.specs.Depth.{AreMembersShallow, AreClassesShallow, IsShallow}
+use Rattle.rg_limits.specs.Opens.{member_opens, members_opens, class_opens, classes_opens, block_opens, tree_opens}
 use Rattle.rg_limits.specs.Each.{HoldsInMember, HoldsOfEach}
-use Rattle.rg_limits.specs.Brackets.{most_open}
 use Rattle.rg_limits.specs.Laws.{LimitsAreLineless}
 
 -- Of each element of a list, and of what is made of it
@@ -78,31 +77,36 @@ parts-from t h = record {
   members = recursion-from HasFewMembers HasFewMembers class_unlined members-from t.classes h.members;
 }
 
--- Depth
+-- Brackets
 
-shallow-to : (most : ℕ) (ms : List Member) → AreMembersShallow most ms → AreMembersShallow most (map member_unlined ms)
-shallow-to most [] h = h
-shallow-to most (field f ∷ ms) h = shallow-to most ms h
-shallow-to most (method m ∷ ms) h = (h.0, shallow-to most ms h.1)
+member-opens : (m : Member) → member_opens (member_unlined m) ≡ member_opens m
+member-opens (field f) = refl
+member-opens (method m) = refl
 
-shallow-from : (most : ℕ) (ms : List Member) → AreMembersShallow most (map member_unlined ms) → AreMembersShallow most ms
-shallow-from most [] h = h
-shallow-from most (field f ∷ ms) h = shallow-from most ms h
-shallow-from most (method m ∷ ms) h = (h.0, shallow-from most ms h.1)
+members-opens : (ms : List Member) → members_opens (map member_unlined ms) ≡ members_opens ms
+members-opens [] = refl
+members-opens (m ∷ ms) =
+    ap (λ (n : ℕ). max n (members_opens (map member_unlined ms))) (member-opens m)
+    ∙ ap (λ (n : ℕ). max (member_opens m) n) (members-opens ms)
 
-classes-to : (most : ℕ) (cs : List Class) → AreClassesShallow most cs → AreClassesShallow most (classes_unlined cs)
-classes-to most [] h = h
-classes-to most (c ∷ cs) h = (shallow-to most c.members h.0, classes-to most cs h.1)
+classes-opens : (cs : List Class) → classes_opens (classes_unlined cs) ≡ classes_opens cs
+classes-opens [] = refl
+classes-opens (c ∷ cs) =
+    ap (λ (n : ℕ). max (suc n) (classes_opens (classes_unlined cs))) (members-opens c.members)
+    ∙ ap (λ (n : ℕ). max (class_opens c) n) (classes-opens cs)
 
-classes-from : (most : ℕ) (cs : List Class) → AreClassesShallow most (classes_unlined cs) → AreClassesShallow most cs
-classes-from most [] h = h
-classes-from most (c ∷ cs) h = (shallow-from most c.members h.0, classes-from most cs h.1)
+tree-opens : (t : Tree) → tree_opens (unlined t) ≡ tree_opens t
+tree-opens t = ap (λ (n : ℕ). max n (suc (block_opens t.body))) (classes-opens t.classes)
 
-depth-to : (t : Tree) → IsShallow BRACKETS t → IsShallow BRACKETS (unlined t)
-depth-to t h = record { main = h.main; methods = classes-to BRACKETS t.classes h.methods }
+-- it opens few brackets
+abbrev OpensFew : Tree → Type 0
+OpensFew t = tree_opens t ≤ BRACKETS
 
-depth-from : (t : Tree) → IsShallow BRACKETS (unlined t) → IsShallow BRACKETS t
-depth-from t h = record { main = h.main; methods = classes-from BRACKETS t.classes h.methods }
+opens-to : (t : Tree) → OpensFew t → OpensFew (unlined t)
+opens-to t h = subst (λ (n : ℕ). n ≤ BRACKETS) (sym (tree-opens t)) h
+
+opens-from : (t : Tree) → OpensFew (unlined t) → OpensFew t
+opens-from t h = subst (λ (n : ℕ). n ≤ BRACKETS) (tree-opens t) h
 
 -- Each statement
 
@@ -135,12 +139,11 @@ module _ (P : StmtKind → Type 0) where
 over : (X : Tree → Type 0) → ((t : Tree) → X t → X (unlined t)) → ((t : Tree) → X (unlined t) → X t) → (t u : Tree) → SameButLines t u → X t → X u
 over X to from t u e h = from u (subst X e (to t h))
 
-pub limits-lineless : SameText → SameNames → LimitsAreLineless
-limits-lineless text names t u e h = record {
+pub limits-lineless : SameNames → LimitsAreLineless
+limits-lineless names t u e h = record {
   parts = over HasFewParts parts-to parts-from t u e h.parts;
   names = names t u e h.names;
   signs = over (HoldsOfEach _) (each-to _) (each-from _) t u e h.signs;
   numbers = over (HoldsOfEach _) (each-to _) (each-from _) t u e h.numbers;
-  depth = over (λ (v : Tree). IsShallow BRACKETS v) depth-to depth-from t u e h.depth;
-  brackets = subst (λ (bytes : List ℕ). most_open bytes ≤ BRACKETS) (text t u e) h.brackets;
+  brackets = over OpensFew opens-to opens-from t u e h.brackets;
 }

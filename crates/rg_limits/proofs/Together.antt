@@ -1,18 +1,16 @@
 -- What the parts that are tested say together.
-use Rattle.std.proofs.Common.{◌≡◌, ℕ, ◌≤◌, sym, subst, Bool as Truth, true, false, List, [], ◌∷◌, All}
+use Rattle.std.proofs.Common.{suc, ◌≤◌, Bool as Truth, true, false, List, [], ◌∷◌, All, arith}
 use Rattle.std.specs.List.{AllByRecursion}
 use Rattle.std.proofs.lemmas.List.Elements.{recursion_from_All, All-from_recursion}
 use Rattle.rg_base.specs.declared.limits.TheConstants.{BRACKETS, BODY_NAMES}
 use Rattle.rg_tree.specs.Tree.{stmt, StmtKind, declare, assign, assign_element, call, swap, branch, while, enter, print, collect, return}
 use Rattle.rg_tree.specs.Tree.{Else, no_else, otherwise, Block, empty, then as next, Member, field, method, Class, Tree}
-use Rattle.rg_tree.specs.Canonical.{canon}
 use Rattle.rg_rules.specs.Names.{block_names, HasFewNames}
 use Rattle.rg_limits.specs.Parts.{HasFewParts}
-use Rattle.rg_limits.specs.Depth.{IsShallow}
+use Rattle.rg_limits.specs.Opens.{block_opens, members_opens, classes_opens}
 use Rattle.rg_limits.specs.Each.{HoldsWithin, HoldsBehind, HoldsInBlock, HoldsInMember}
 use Rattle.rg_limits.specs.Signs.{HasFewOwnSigns}
 use Rattle.rg_limits.specs.Numbers.{HasOwnSmall}
-use Rattle.rg_limits.specs.Brackets.{most_open}
 use Rattle.rg_limits.specs.Limits.{IsWithinLimits}
 use Rattle.rg_limits.specs.Telling.{Tells}
 use Rattle.rg_limits.specs.Inner.Fine.{IsFine, IsMemberFine, IsClassFine}
@@ -98,57 +96,71 @@ numbers-of : (k : StmtKind) → IsFine k → HasOwnSmall k
 numbers-of k h = h.1
 
 members-fine : (ms : List Member) → AllByRecursion HasFewNames ms → AllByRecursion (HoldsInMember HasFewOwnSigns) ms
-    → AllByRecursion (HoldsInMember HasOwnSmall) ms → AllByRecursion IsMemberFine ms
-members-fine [] h i j = h
-members-fine (m ∷ ms) h i j = ((h.0, member-both HasFewOwnSigns HasOwnSmall m i.0 j.0), members-fine ms h.1 i.1 j.1)
+    → AllByRecursion (HoldsInMember HasOwnSmall) ms → suc (members_opens ms) ≤ BRACKETS → AllByRecursion IsMemberFine ms
+members-fine [] h i j l = h
+members-fine (m ∷ ms) h i j l =
+    ((h.0, member-both HasFewOwnSigns HasOwnSmall m i.0 j.0, omega (arith, l)), members-fine ms h.1 i.1 j.1 (omega (arith, l)))
 
 -- each member of a class is such
 abbrev InClass : (Member → Type 0) → Class → Type 0
 InClass Q c = All Q c.members
 
 classes-fine : (cs : List Class) → AllByRecursion (InClass HasFewNames) cs → AllByRecursion (InClass (HoldsInMember HasFewOwnSigns)) cs
-    → AllByRecursion (InClass (HoldsInMember HasOwnSmall)) cs → AllByRecursion IsClassFine cs
-classes-fine [] h i j = h
-classes-fine (c ∷ cs) h i j = (
+    → AllByRecursion (InClass (HoldsInMember HasOwnSmall)) cs → classes_opens cs ≤ BRACKETS → AllByRecursion IsClassFine cs
+classes-fine [] h i j l = h
+classes-fine (c ∷ cs) h i j l = (
   members-fine c.members (recursion_from_All HasFewNames c.members h.0) (recursion_from_All (HoldsInMember HasFewOwnSigns) c.members i.0)
-      (recursion_from_All (HoldsInMember HasOwnSmall) c.members j.0),
-  classes-fine cs h.1 i.1 j.1,
+      (recursion_from_All (HoldsInMember HasOwnSmall) c.members j.0) (omega (arith, l)),
+  classes-fine cs h.1 i.1 j.1 (omega (arith, l)),
 )
+
+-- and back: the brackets of members and classes are few, where those of each are
+
+members-few : (ms : List Member) → AllByRecursion IsMemberFine ms → suc (members_opens ms) ≤ BRACKETS
+members-few [] h = omega arith
+members-few (m ∷ ms) h = let l = members-few ms h.1 in let k = h.0.2 in omega (arith, k, l)
+
+classes-few : (cs : List Class) → AllByRecursion IsClassFine cs → classes_opens cs ≤ BRACKETS
+classes-few [] h = omega arith
+classes-few (c ∷ cs) h = let l = members-few c.members h.0 in let k = classes-few cs h.1 in omega (arith, k, l)
 
 -- Programs
 
--- main has few names, and its statements are such
+-- main has few names and few brackets, and its statements are such
 abbrev IsMainFine : Tree → Type 0
-IsMainFine t = (block_names t.body ≤ BODY_NAMES) × HoldsInBlock IsFine t.body
+IsMainFine t = (block_names t.body ≤ BODY_NAMES) × HoldsInBlock IsFine t.body × (suc (block_opens t.body) ≤ BRACKETS)
 
 pub its-classes : (t : Tree) → IsWithinLimits t → AllByRecursion IsClassFine t.classes
 its-classes t w =
+    let few = w.brackets in
     classes-fine t.classes (recursion_from_All (InClass HasFewNames) t.classes w.names.methods)
     (recursion_from_All (InClass (HoldsInMember HasFewOwnSigns)) t.classes w.signs.methods)
-    (recursion_from_All (InClass (HoldsInMember HasOwnSmall)) t.classes w.numbers.methods)
+    (recursion_from_All (InClass (HoldsInMember HasOwnSmall)) t.classes w.numbers.methods) (omega (arith, few))
 
 pub its-main : (t : Tree) → IsWithinLimits t → IsMainFine t
-its-main t w = (w.names.main, block-both HasFewOwnSigns HasOwnSmall t.body w.signs.main w.numbers.main)
+its-main t w =
+    let few = w.brackets in
+    (w.names.main, block-both HasFewOwnSigns HasOwnSmall t.body w.signs.main w.numbers.main, omega (arith, few))
 
-together : (t : Tree) → HasFewParts t → IsShallow BRACKETS t → AllByRecursion IsClassFine t.classes → IsMainFine t → most_open (canon t) ≤ BRACKETS
-    → IsWithinLimits t
-together t parts depth cs m brackets = record {
-  parts = parts;
-  names = record { methods = all-part HasFewNames (λ n h. h.0) t.classes cs; main = m.0 };
-  signs = record {
-    methods = all-part (HoldsInMember HasFewOwnSigns) (λ n h. member-less IsFine HasFewOwnSigns signs-of n h.1) t.classes cs;
-    main = block-less IsFine HasFewOwnSigns signs-of t.body m.1;
-  };
-  numbers = record {
-    methods = all-part (HoldsInMember HasOwnSmall) (λ n h. member-less IsFine HasOwnSmall numbers-of n h.1) t.classes cs;
-    main = block-less IsFine HasOwnSmall numbers-of t.body m.1;
-  };
-  depth = depth;
-  brackets = brackets;
-}
+together : (t : Tree) → HasFewParts t → AllByRecursion IsClassFine t.classes → IsMainFine t → IsWithinLimits t
+together t parts cs m =
+    let few = classes-few t.classes cs in
+    let own = m.2 in
+    record {
+      parts = parts;
+      names = record { methods = all-part HasFewNames (λ n h. h.0) t.classes cs; main = m.0 };
+      signs = record {
+        methods = all-part (HoldsInMember HasFewOwnSigns) (λ n h. member-less IsFine HasFewOwnSigns signs-of n h.1) t.classes cs;
+        main = block-less IsFine HasFewOwnSigns signs-of t.body m.1;
+      };
+      numbers = record {
+        methods = all-part (HoldsInMember HasOwnSmall) (λ n h. member-less IsFine HasOwnSmall numbers-of n h.1) t.classes cs;
+        main = block-less IsFine HasOwnSmall numbers-of t.body m.1;
+      };
+      brackets = omega (arith, few, own);
+    }
 
 -- the last test tells of the program
-pub tells-whole : (t : Tree) (bytes : List ℕ) (b : Truth) → HasFewParts t → IsShallow BRACKETS t → AllByRecursion IsClassFine t.classes → IsMainFine t
-    → bytes ≡ canon t → Tells b (most_open bytes ≤ BRACKETS) → Tells b (IsWithinLimits t)
-tells-whole t bytes true parts depth cs m e h = together t parts depth cs m (subst (λ (text : List ℕ). most_open text ≤ BRACKETS) e h)
-tells-whole t bytes false parts depth cs m e h = λ w. h (subst (λ (text : List ℕ). most_open text ≤ BRACKETS) (sym e) w.brackets)
+pub tells-whole : (t : Tree) (b : Truth) → HasFewParts t → AllByRecursion IsClassFine t.classes → Tells b (IsMainFine t) → Tells b (IsWithinLimits t)
+tells-whole t true parts cs m = together t parts cs m
+tells-whole t false parts cs m = λ w. m (its-main t w)

@@ -5,7 +5,6 @@ mod Reading
 mod Numbers
 mod Bounds
 mod Spelt
-mod Plain
 mod Runs
 mod Whole
 mod Examples

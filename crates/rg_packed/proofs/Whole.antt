@@ -2,13 +2,12 @@
 use Rattle.std.proofs.Common.{refl, ℕ, suc, List, length, arith}
 use Rattle.rg_tree.specs.Tree.{Tree}
 use Rattle.rg_limits.specs.Limits.{IsWithinLimits}
-use Rattle.rg_within.specs.Laws.{SpeltIsWithinLimits, SpeltOpensFew}
+use Rattle.rg_within.specs.Laws.{SpeltIsWithinLimits}
 use Rattle.rg_renamed.specs.Renamed.{renamed}
 use Rattle.rg_renamed.specs.Laws.{ModulesAreRaised}
 use Rattle.rg_packed.specs.Laws.{IsOfSource, PackedSpellsModule, PackedIsRaised}
 use Rattle.rg_packed.proofs.Reading.{spelt-lined}
 use Rattle.rg_packed.proofs.Spelt.{spelt-module}
-use Rattle.rg_packed.proofs.Plain.{bare-plain}
 
 within : SpeltIsWithinLimits → (bytes : List ℕ) (t : Tree) → IsOfSource bytes t → IsWithinLimits t
 within law bytes t s = law bytes t s.tokens s.cuts s.spells
@@ -22,10 +21,5 @@ spells-module law bytes t s short =
       same = refl;
     }
 
-pub is-raised : SpeltIsWithinLimits → SpeltOpensFew → ModulesAreRaised → PackedIsRaised
-is-raised limits few raised bytes t s =
-    let bare = (few bytes t s.tokens s.cuts s.spells).0 in (
-      renamed t,
-      raised t s.accepted (within limits bytes t s)
-          (bare-plain (suc (length bytes)) t bare (spelt-lined bytes t s.tokens s.cuts s.spells)),
-    )
+pub is-raised : SpeltIsWithinLimits → ModulesAreRaised → PackedIsRaised
+is-raised limits raised bytes t s = (renamed t, raised t s.accepted (within limits bytes t s))

@@ -15,7 +15,6 @@ pub fn packed_is_raised()
     ensures { PackedIsRaised }
 {
     rg_within::spelt_is_within_limits();
-    rg_within::spelt_opens_few();
     rg_renamed::modules_are_raised();
 }
 

@@ -4,8 +4,6 @@ use Rattle.std.proofs.lemmas.Bool.{false≢true}
 use Rattle.std.specs.Fmt.{digits}
 use Rattle.rg_base.specs.declared.words.Manager.TheVariants as manager
 use Rattle.rg_tree.specs.Tree.{int, number, value, declare, stmt, print, empty, then as next, Tree}
-use Rattle.rg_tree.specs.Canonical.{canon}
-use Rattle.rg_limits.specs.Brackets.{most_open}
 use Rattle.rg_limits.specs.Limits.{IsWithinLimits}
 use Rattle.rg_build.specs.ModuleOf.{module_of}
 use Rattle.rg_raised.specs.Raises.{IsNumbered, Raises}
@@ -15,14 +13,12 @@ abbrev seven : Tree
 seven = record { classes = []; manager = manager.Arena; body = next (stmt 1 (print (number (pos 7)))) empty; line = 1 }
 
 seven-within : IsWithinLimits seven
-unfolding digits
 seven-within = record {
   parts = record { classes = omega arith; members = tt };
   names = record { methods = λ k d l. absurd (omega arith); main = omega arith };
   signs = record { methods = λ k d l. absurd (omega arith); main = ((omega arith, tt), tt) };
   numbers = record { methods = λ k d l. absurd (omega arith); main = (((omega arith, tt), tt), tt) };
-  depth = record { main = omega arith; methods = tt };
-  brackets = let e : most_open (canon seven) ≡ 1 = refl in omega (arith, e);
+  brackets = omega arith;
 }
 
 -- it raises its module

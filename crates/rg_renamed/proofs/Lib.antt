@@ -6,7 +6,6 @@ mod Classes
 mod Environments
 mod Examples
 mod Expressions
-mod FewerBrackets
 mod Follows
 mod Headers
 mod Limits
@@ -15,6 +14,7 @@ mod Names
 mod Numbered
 mod NumberedCode
 mod NumberedMaps
+mod Opens
 mod Parameters
 mod Paths
 mod Scopes

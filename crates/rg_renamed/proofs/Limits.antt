@@ -1,17 +1,16 @@
--- With numbers for names a program has as many parts, names, signs and levels of blocks as before, and the same numbers.
-use Rattle.std.proofs.Common.{◌≡◌, refl, sym, ap, ◌∙◌, subst, ℕ, zero, suc, ◌+◌, ◌≤◌, max, Bool as Truth, true, false, List, [], ◌∷◌, ◌++◌, length, map}
+-- With numbers for names a program has as many parts, names and signs as before, and the same numbers.
+use Rattle.std.proofs.Common.{◌≡◌, refl, sym, ap, ◌∙◌, subst, ℕ, suc, ◌+◌, ◌≤◌, Bool as Truth, true, false, List, [], ◌∷◌, ◌++◌, length, map}
 use Rattle.std.proofs.Common.{filter_map, All, Option, Some, None, option_map, option_to_list}
 use Rattle.std.specs.List.{AllByRecursion}
 use Rattle.std.proofs.lemmas.List.Elements.{recursion_from_All, All-from_recursion}
-use Rattle.rg_base.specs.declared.limits.TheConstants.{CLASSES, CLASS_FIELDS, CLASS_METHODS, PARAMETERS, BODY_NAMES, STATEMENT_SIGNS, BRACKETS}
+use Rattle.rg_base.specs.declared.limits.TheConstants.{CLASSES, CLASS_FIELDS, CLASS_METHODS, PARAMETERS, BODY_NAMES, STATEMENT_SIGNS}
 use Rattle.rg_tree.specs.Tree.{Name, Variable, Expr, number, boolean, nil, path, is_nil, neg, not, binary, size, element, Right, value, new, new_tmp}
 use Rattle.rg_tree.specs.Tree.{new_iso, freeze, merge, read, more, result_of, stmt, StmtKind, declare, assign, assign_element, call, swap, branch}
-use Rattle.rg_tree.specs.Tree.{while, enter, print, collect, return, Else, no_else, otherwise, Block, empty, then as next, Param, Field, Method}
+use Rattle.rg_tree.specs.Tree.{while, enter, print, collect, return, Else, no_else, otherwise, Block, empty, then as next, Field, Method}
 use Rattle.rg_tree.specs.Tree.{Member, field, method, Class, Tree}
-use Rattle.rg_rules.specs.Names.{kind_names, else_names, block_names, method_names, HasFewNames, FewNames}
+use Rattle.rg_rules.specs.Names.{kind_names, else_names, block_names, HasFewNames, FewNames}
 use Rattle.rg_rules.specs.Types.{field_member, method_member}
 use Rattle.rg_limits.specs.Parts.{HasFewMembers, HasFewParts}
-use Rattle.rg_limits.specs.Depth.{kind_levels, else_levels, block_levels, AreMembersShallow, AreClassesShallow, IsShallow}
 use Rattle.rg_limits.specs.Each.{right_exprs, own_exprs, HoldsWithin, HoldsBehind, HoldsInBlock, HoldsInMember, HoldsOfEach}
 use Rattle.rg_limits.specs.Signs.{expr_signs, exprs_signs, HasFewOwnSigns, HasFewSigns}
 use Rattle.rg_limits.specs.Numbers.{HasSmall, HasOwnSmall, HasSmallNumbers}
@@ -22,8 +21,7 @@ use Rattle.rg_verify.specs.Found as found
 use Rattle.rg_verify.specs.Found.{right_named, kind_named, else_named, block_named}
 use Rattle.rg_numbered.specs.Numbered.{numbered, numbered_right, numbered_assign, numbered_swap, numbered_enter, giving_slot, numbered_kind, numbered_else}
 use Rattle.rg_numbered.specs.Numbered.{numbered_block}
-use Rattle.rg_renamed.specs.Renamed.{renamed_classes, renamed_params, renamed_method, renamed_field, renamed_from, renamed_members, renamed_class, renamed}
-use Rattle.rg_renamed.specs.Renamed.{renamed_block}
+use Rattle.rg_renamed.specs.Renamed.{renamed_classes, renamed_method, renamed_field, renamed_from, renamed_members, renamed_class, renamed}
 use Rattle.rg_renamed.proofs.Names.{from-long}
 use Rattle.rg_renamed.proofs.Numbered.{params-long}
 use Rattle.rg_renamed.proofs.Classes.{classes-long, member-fields, member-methods}
@@ -75,52 +73,6 @@ module _ (cs : List Class) (m : Truth) where
         let to = found.slots_behind n (numbered_kind cs ss k) in
         ap (λ (i : ℕ). i + block_names (block_named m to (numbered_block cs behind b))) (kind-names ss n k)
         ∙ ap (λ (i : ℕ). kind_names k + i) (block-names behind to b)
-
-  -- Levels
-
-  assign-levels : (ss : Scope) (n : ℕ) (x : Variable) (fs : List Name) (r : numbers.Right) →
-      kind_levels (kind_named m n (numbered_assign cs ss x fs r)) ≡ 0
-  assign-levels ss n x [] r = refl
-  assign-levels ss n x (f ∷ fs) r = refl
-
-  swap-levels : (ss : Scope) (n y : ℕ) (x : Variable) (fs : List Name) → kind_levels (kind_named m n (numbered_swap cs ss y x fs)) ≡ 0
-  swap-levels ss n y x [] = refl
-  swap-levels ss n y x (f ∷ fs) = refl
-
-  enter-levels : (ss : Scope) (n : ℕ) (x : Variable) (fs : List Name) (b : numbers.Block) (w : Option ℕ) →
-      kind_levels (kind_named m n (numbered_enter cs ss x fs b w)) ≡ block_levels (block_named m (n + 1) b)
-  enter-levels ss n x [] b w = refl
-  enter-levels ss n x (f ∷ fs) b w = refl
-
-  mutual
-    kind-levels : (ss : Scope) (n : ℕ) (k : StmtKind) → kind_levels (kind_named m n (numbered_kind cs ss k)) ≡ kind_levels k
-    kind-levels ss n (declare x t r) = refl
-    kind-levels ss n (assign p r) = assign-levels ss n p.base p.fields (numbered_right cs ss r)
-    kind-levels ss n (assign_element q e r) = refl
-    kind-levels ss n (call c) = refl
-    kind-levels ss n (swap y p) = swap-levels ss n (slot_of ss (Some y)) p.base p.fields
-    kind-levels ss n (branch e b other) =
-        ap (λ (i : ℕ). max i (else_levels (else_named m n (numbered_else cs ss other)))) (block-levels ss n b)
-        ∙ ap (λ (i : ℕ). max (block_levels b) i) (else-levels ss n other)
-    kind-levels ss n (while e b) = block-levels ss n b
-    kind-levels ss n (enter p z b w) =
-        let inside = scope_inside cs ss p z in
-        enter-levels ss n p.base p.fields (numbered_block cs inside b) (giving_slot (scope_at_end cs inside b) w) ∙ block-levels inside (n + 1) b
-    kind-levels ss n (print e) = refl
-    kind-levels ss n collect = refl
-    kind-levels ss n (return e) = refl
-
-    else-levels : (ss : Scope) (n : ℕ) (o : Else) → else_levels (else_named m n (numbered_else cs ss o)) ≡ else_levels o
-    else-levels ss n no_else = refl
-    else-levels ss n (otherwise b) = block-levels ss n b
-
-    pub block-levels : (ss : Scope) (n : ℕ) (b : Block) → block_levels (block_named m n (numbered_block cs ss b)) ≡ block_levels b
-    block-levels ss n empty = refl
-    block-levels ss n (next (stmt line k) b) =
-        let behind = scope_behind cs ss k in
-        let to = found.slots_behind n (numbered_kind cs ss k) in
-        ap (λ (i : ℕ). max (suc i) (block_levels (block_named m to (numbered_block cs behind b)))) (kind-levels ss n k)
-        ∙ ap (λ (i : ℕ). max (suc (kind_levels k)) i) (block-levels behind to b)
 
   -- Expressions
 
@@ -296,29 +248,6 @@ module _ (cs : List Class) where
       (sym (ap (λ (n : ℕ). suc n + block_names (renamed_method cs c k m).body) (params-long cs 1 m.params)
       ∙ ap (λ (n : ℕ). suc (length m.params) + n) (block-names cs true (method_scope cs c m) (length (method_scope cs c m)) m.body))) h
 
-  -- levels of blocks
-
-  methods-shallow : (most c k : ℕ) (ms : List Member) → AreMembersShallow most ms →
-      AreMembersShallow most (renamed_from (λ j m. method (renamed_method cs c j m)) k (filter_map method_member ms))
-  methods-shallow most c k [] h = tt
-  methods-shallow most c k (field f ∷ ms) h = methods-shallow most c k ms h
-  methods-shallow most c k (method m ∷ ms) h = (
-    subst (λ (n : ℕ). n ≤ most) (sym (block-levels cs true (method_scope cs c m) (length (method_scope cs c m)) m.body)) h.0,
-    methods-shallow most c (suc k) ms h.1,
-  )
-
-  fields-shallow : (most k : ℕ) (fs : List Field) (rest : List Member) → AreMembersShallow most rest →
-      AreMembersShallow most (renamed_from (λ j f. field (renamed_field cs j f)) k fs ++ rest)
-  fields-shallow most k [] rest h = h
-  fields-shallow most k (f ∷ fs) rest h = fields-shallow most (suc k) fs rest h
-
-  classes-shallow : (most c : ℕ) (ds : List Class) → AreClassesShallow most ds → AreClassesShallow most (renamed_from (renamed_class cs) c ds)
-  classes-shallow most c [] h = tt
-  classes-shallow most c (d ∷ ds) h = (
-    fields-shallow most 0 (filter_map field_member d.members) _ (methods-shallow most c 0 d.members h.0),
-    classes-shallow most (suc c) ds h.1,
-  )
-
   -- parts
 
   few-params : (c k : ℕ) (ms : List Method) → AllByRecursion (λ (m : Method). length m.params ≤ PARAMETERS) ms →
@@ -355,12 +284,6 @@ pub names-again : (t : Tree) → FewNames t → FewNames (renamed t)
 names-again t h = record {
   methods = classes-hold t.classes HasFewNames (λ k f q. q) (few-again t.classes) h.methods;
   main = subst (λ (n : ℕ). n ≤ BODY_NAMES) (sym (block-names t.classes false [] 0 t.body)) h.main;
-}
-
-pub levels-again : (t : Tree) → IsShallow BRACKETS t → IsShallow BRACKETS (renamed t)
-levels-again t h = record {
-  main = subst (λ (n : ℕ). n ≤ BRACKETS) (sym (block-levels t.classes false [] 0 t.body)) h.main;
-  methods = classes-shallow t.classes BRACKETS 0 t.classes h.methods;
 }
 
 each-again : (P : StmtKind → Type 0) (t : Tree) →

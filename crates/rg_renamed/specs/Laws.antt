@@ -4,7 +4,6 @@ use Rattle.rg_tree.specs.Tree.{Tree}
 use Rattle.rg_rules.specs.Names.{FewNames}
 use Rattle.rg_rules.specs.Acceptance.{Accepted}
 use Rattle.rg_limits.specs.Parts.{HasFewParts}
-use Rattle.rg_limits.specs.Plain.{IsPlain}
 use Rattle.rg_limits.specs.Limits.{IsWithinLimits}
 use Rattle.rg_build.specs.ModuleOf.{module_of}
 use Rattle.rg_raised.specs.Raises.{IsNumbered, Raises}
@@ -21,11 +20,10 @@ RenamedAreAccepted = (t : Tree) → Accepted t → HasFewParts t → FewNames t 
 abbrev pub SameModule : Type 0
 SameModule = (t : Tree) → Accepted t → HasFewParts t → FewNames t → module_of (renamed t) ≡ module_of t
 
--- It passes no limit where the program passes none. Its text has its own brackets alone, so it opens no more of them than that of the program, if
--- no name there has a bracket in it that closes.
+-- It passes no limit where the program passes none.
 abbrev pub RenamedAreWithinLimits : Type 0
-RenamedAreWithinLimits = (t : Tree) → IsWithinLimits t → IsPlain t → IsWithinLimits (renamed t)
+RenamedAreWithinLimits = (t : Tree) → IsWithinLimits t → IsWithinLimits (renamed t)
 
 -- so it raises the module of the program
 abbrev pub ModulesAreRaised : Type 0
-ModulesAreRaised = (t : Tree) → Accepted t → IsWithinLimits t → IsPlain t → Raises (module_of t) (renamed t)
+ModulesAreRaised = (t : Tree) → Accepted t → IsWithinLimits t → Raises (module_of t) (renamed t)

@@ -21,7 +21,7 @@ pub fn renamed_is_accepted()
     ensures { RenamedAreAccepted }
 {}
 
-/// It passes no limit where the program passes none, and no name there has a bracket in it.
+/// It passes no limit where the program passes none.
 pub fn renamed_is_within_limits()
     ensures { RenamedAreWithinLimits }
 {}

@@ -6,8 +6,8 @@ ghost use Rattle.rg_tree.specs.Rows.RowTrees.{program_of};
 ghost use Rattle.rg_module.specs.Spelling.{IsSpelt};
 ghost use Rattle.rg_compare.specs.Telling.{TellsSame};
 ghost use Rattle.rg_build.specs.ModuleOf.{module_of};
+ghost use Rattle.rg_limits.specs.Parts.{HasFewParts};
 ghost use Rattle.rg_raised.specs.Raises.{Raises};
-ghost use Rattle.rg_told.specs.Laws.{IsBounded};
 ghost use Rattle.rg_verified.specs.Verdict.{IsUnverified};
 ghost use Rattle.rg_verified.specs.Inner.Verdicts.{AllowsAs, RaisesAs};
 
@@ -27,13 +27,10 @@ use std::alloc::Global;
 
 // The program as an accepted one, if it is one and passes no limit.
 fn allowed(alloc: Global, program: Program) -> Result<Accepted, Refusal>
-    requires { IsBounded (program_of program) }
+    requires { HasFewParts (program_of program) }
     ensures { AllowsAs program result }
 {
-    let Ok(within) = is_within_limits(alloc, &program) else {
-        return Err(Refusal::Memory);
-    };
-    if !within {
+    if !is_within_limits(&program) {
         return Err(Refusal::NotRaised);
     }
     match check(alloc, program) {

@@ -1,13 +1,8 @@
--- Lemmas on what the grammar counts, and on the brackets of canonical text.
+-- Lemmas on what the grammar counts, and on what is read of a source.
 mod Kept
 mod SpeltFew
-mod Texts
 mod Tokens
-mod PartTexts
-mod TreeTexts
-mod Levels
 mod Spent
 mod Pieces
 mod Reading
 mod Whole
-mod Examples

@@ -19,10 +19,11 @@ use Rattle.rg_tree.proofs.Callers.{within-ok}
 use Rattle.rg_limits.specs.Each.{right_exprs, HoldsWithin, HoldsBehind, HoldsInBlock, HoldsInMember, HoldsOfEach}
 use Rattle.rg_limits.specs.Signs.{expr_signs, exprs_signs, HasFewOwnSigns}
 use Rattle.rg_limits.specs.Numbers.{HasSmall, HasOwnSmall}
-use Rattle.rg_within.specs.Bare.{IsBare, IsBarePath, IsBareType, IsBareExpr, IsBareCall, IsBareRight, IsBareKind, IsBareElse, IsBareBlock, IsBareParam}
-use Rattle.rg_within.specs.Bare.{IsBareMember, HasBareMembers, IsBareClass, IsBareTree}
-use Rattle.rg_within.specs.Opens.{expr_opens, exprs_opens, call_opens, index_opens, right_opens, kind_opens, else_opens, block_opens}
-use Rattle.rg_within.specs.Opens.{members_opens, class_opens, tree_opens}
+use Rattle.rg_limits.specs.Bare.{IsBare, IsBarePath, IsBareType, IsBareExpr, IsBareCall, IsBareRight, IsBareKind, IsBareElse, IsBareBlock}
+use Rattle.rg_limits.specs.Bare.{IsBareParam}
+use Rattle.rg_limits.specs.Bare.{IsBareMember, HasBareMembers, IsBareClass, IsBareTree}
+use Rattle.rg_limits.specs.Opens.{expr_opens, exprs_opens, call_opens, index_opens, right_opens, kind_opens, else_opens, block_opens}
+use Rattle.rg_limits.specs.Opens.{members_opens, class_opens, tree_opens}
 use Rattle.rg_within.proofs.Tokens.{FineKind}
 use Rattle.rg_within.proofs.Spent.{Spent, still, behind, as-many, method-spent, opened-so, shut, Room, no-room, as-deep, within, Fits}
 
@@ -376,7 +377,7 @@ pub element-rest : {c d e : Counts} (t : Ty) → opened c ≡ Ok d → Spent 0 d
 element-rest {c} {d} t h x = record {
   signs = tt;
   small = tt;
-  bare = x.1;
+  bare = (x.1, refl);
   brackets = (shut h x.0).brackets;
   room = within 0 (opened-so h) (no-room d.brackets);
 }

@@ -12,16 +12,20 @@ use Rattle.rg_tree.specs.Grammar.{block_row, no_stmts, more_stmts, let_row, assi
 use Rattle.rg_tree.specs.Grammar.{collect_row, return_row, else_row, else_none, path_row, next_field, no_fields, new_row, freeze_row, merge_row}
 use Rattle.rg_tree.specs.Grammar.{input_row, result_row, value_row, new_plain, new_temporary, new_region, call_start, call_base, call_further}
 use Rattle.rg_tree.specs.Grammar.{call_args, no_args, first_arg, next_arg, no_more_args, expr_row, or_row, no_or, and_row, and_further, no_and}
-use Rattle.rg_tree.specs.Grammar.{not_row, no_not, cmp_row, compared, not_compared, sum_row, sum_further, no_sum, mul_row, mul_further, no_mul, minus}
+use Rattle.rg_tree.specs.Grammar.{not_row, no_not, cmp_row, compared, not_compared, sum_row, sum_further, no_sum, mul_row, mul_further, no_mul}
+use Rattle.rg_tree.specs.Grammar.{minus}
 use Rattle.rg_tree.specs.Grammar.{no_minus, literal, parens, path_value, is_row, no_is}
-use Rattle.rg_within.specs.Bare.{IsBare, IsBarePath, IsBareType, IsBareParam}
+use Rattle.rg_limits.specs.Bare.{IsBare, IsBarePath, IsBareType, IsBareParam}
 use Rattle.rg_within.proofs.Tokens.{AreFine}
-use Rattle.rg_within.proofs.Spent.{Spent, still, behind, before, local-spent, param-spent, field-spent, no-room, Fits, looser, or-levels, and-levels}
-use Rattle.rg_within.proofs.Spent.{comparison-levels, sum-levels, product-levels, operator-fits, not-fits, neg-fits, parens-fits, path-fits, is_nil-fits}
+use Rattle.rg_within.proofs.Spent.{Spent, still, behind, before, local-spent, param-spent, field-spent, no-room, Fits, looser, or-levels}
+use Rattle.rg_within.proofs.Spent.{and-levels}
+use Rattle.rg_within.proofs.Spent.{comparison-levels, sum-levels, product-levels, operator-fits, not-fits, neg-fits, parens-fits, path-fits}
+use Rattle.rg_within.proofs.Spent.{is_nil-fits}
 use Rattle.rg_within.proofs.Spent.{size-fits, element-fits, literal-fits}
 use Rattle.rg_within.proofs.Pieces.{name-of, base-bare, plain_type-bare, longer-bare, ArgsFit, args-fit, no-args, IndexFits, at-fits, no-index}
 use Rattle.rg_within.proofs.Pieces.{CallFits, call-behind, args-call, RightFits, value-fits, input-fits, StmtFits, BlockFits, BracedFits, ElseFits}
-use Rattle.rg_within.proofs.Pieces.{declare-fits, assigned-fits, call-fits, swap-fits, print-fits, return-fits, collect-fits, while-fits, branch-fits}
+use Rattle.rg_within.proofs.Pieces.{declare-fits, assigned-fits, call-fits, swap-fits, print-fits, return-fits, collect-fits, while-fits}
+use Rattle.rg_within.proofs.Pieces.{branch-fits}
 use Rattle.rg_within.proofs.Pieces.{otherwise-fits, enter-fits, then-fits, braced, MembersFit, field-fits, method-fits, RestFits, members-rest}
 use Rattle.rg_within.proofs.Pieces.{element-rest, ClassFits, class-fits, ProgramFits, program-more, program-ends}
 

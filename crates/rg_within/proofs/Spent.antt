@@ -17,8 +17,8 @@ use Rattle.rg_tree.specs.Operators.{comparison_of, sum_of, product_of, literal_o
 use Rattle.rg_tree.proofs.Callers.{within-ok}
 use Rattle.rg_limits.specs.Signs.{expr_signs}
 use Rattle.rg_limits.specs.Numbers.{HasSmall}
-use Rattle.rg_within.specs.Bare.{IsBarePath, IsBareExpr}
-use Rattle.rg_within.specs.Opens.{parens_opens, expr_opens}
+use Rattle.rg_limits.specs.Bare.{IsBarePath, IsBareExpr}
+use Rattle.rg_limits.specs.Opens.{parens_opens, expr_opens}
 use Rattle.rg_within.proofs.Tokens.{FineKind}
 
 -- so many signs were counted, within the limit, and as many brackets are open

@@ -18,7 +18,7 @@ use Rattle.rg_base.specs.Tokens.{value_of, begins_name, word_or_name, name_withi
 use Rattle.rg_base.specs.Tokens.{cut_from, cut}
 use Rattle.rg_tree.specs.Tree.{Name}
 use Rattle.rg_tree.specs.Grammar.{text}
-use Rattle.rg_within.specs.Bare.{is_bracket, IsBare}
+use Rattle.rg_limits.specs.Bare.{is_bracket, IsBare}
 
 -- a name or a number with this text
 abbrev pub FineKind : Kind → Name → Type 0

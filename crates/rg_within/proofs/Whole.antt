@@ -8,12 +8,10 @@ use Rattle.rg_tree.specs.Counts.{at_start}
 use Rattle.rg_tree.specs.Grammar.{Spells}
 use Rattle.rg_check.specs.Laws.{SpeltHasFewNames}
 use Rattle.rg_limits.specs.Limits.{IsWithinLimits}
-use Rattle.rg_within.specs.Bare.{IsBareTree}
-use Rattle.rg_within.specs.Opens.{tree_opens}
+use Rattle.rg_limits.specs.Bare.{IsBareTree}
+use Rattle.rg_limits.specs.Opens.{tree_opens}
 use Rattle.rg_within.proofs.SpeltFew.{spelt-few}
 use Rattle.rg_within.proofs.Tokens.{cut-fine}
-use Rattle.rg_within.proofs.Levels.{opens-shallow}
-use Rattle.rg_within.proofs.TreeTexts.{opens-bound}
 use Rattle.rg_within.proofs.Pieces.{ProgramFits}
 use Rattle.rg_within.proofs.Reading.{fitting}
 
@@ -30,12 +28,10 @@ pub within-limits : SpeltHasFewNames → (source : List ℕ) (t : Tree) (tokens 
     → IsWithinLimits t
 within-limits names source t tokens h s =
     let all = fits source t tokens h s in
-    let few = spelt-opens source t tokens h s in
     record {
       parts = spelt-few source t tokens s;
       names = names source t tokens s;
       signs = all.signs;
       numbers = all.small;
-      depth = opens-shallow t BRACKETS few;
-      brackets = opens-bound t all.bare few;
+      brackets = spelt-opens source t tokens h s;
     }

@@ -1,4 +1,2 @@
--- What a source spells passes no limit of a source (docs/language.md, "Limits"), and which brackets are open together in the text of a program.
-pub mod Bare
-pub mod Opens
+-- What a source spells passes no limit of a source (docs/language.md, "Limits").
 pub mod Laws

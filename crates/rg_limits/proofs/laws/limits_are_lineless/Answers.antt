@@ -2,4 +2,4 @@ use Rattle.rg_limits.proofs.Lineless.{limits-lineless}
 use Rattle.rg_limits.proofs.laws.limits_are_lineless.Goals as goal
 
 pub returns : goal.returns
-returns c = limits-lineless c.same_text.ensures c.same_names.ensures
+returns c = limits-lineless c.same_names.ensures

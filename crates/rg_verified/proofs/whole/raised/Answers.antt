@@ -8,7 +8,8 @@ use Rattle.rg_verified.proofs.Verdicts.{is-told, raise-refused, allow-refused, n
 use Rattle.rg_verified.proofs.whole.raised.Goals as goal
 
 pub allowed-requires : goal.allowed-requires
-allowed-requires c = c.told_are_bounded.ensures c.args.«module».now _ (is-told c.args.«module».now c.in_ok-program.program c.in_ok-program.ensures)
+allowed-requires c =
+    (c.told_are_bounded.ensures c.args.«module».now _ (is-told c.args.«module».now c.in_ok-program.program c.in_ok-program.ensures)).parts
 
 pub returns-in_err-program : goal.returns-in_err-program
 returns-in_err-program c =

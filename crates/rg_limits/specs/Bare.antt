@@ -1,5 +1,6 @@
--- Programs whose text has no other brackets than its own: no name has one in it, and no number is one that no source can write.
-use Rattle.std.specs.Prelude.{◌≡◌, ℕ, ◌≤◌, ◌||◌, ⊤, Bool, false, List, Option, Some, None, IfSome, unsigned_abs}
+-- Programs whose text has the brackets of its own alone: no name has one in it, no number is one that no source can write, and an array class has no
+-- members, which its text wouldn't show. A source has no other ones.
+use Rattle.std.specs.Prelude.{◌≡◌, ℕ, ◌≤◌, ◌||◌, ⊤, Bool, false, List, [], Option, Some, None, IfSome, unsigned_abs}
 use Rattle.std.specs.List.{AllByRecursion, list_any}
 use Rattle.rg_base.specs.declared.limits.TheConstants.{GREATEST_NUMBER}
 use Rattle.rg_tree.specs.Tree.{Name, Path, Ty, int, bool, ref, Expr, number, boolean, nil, path, is_nil, neg, not, binary, size, element, Call}
@@ -83,10 +84,9 @@ abbrev pub IsBareMember : Member → Type 0
 IsBareMember (field f) = IsBare f.name × IsBareType f.ty
 IsBareMember (method m) = IsBare m.name × AllByRecursion IsBareParam m.params × IfSome m.result IsBareType × IsBareBlock m.body
 
--- the text of an array class doesn't show its members
 abbrev pub HasBareMembers : (element : Option Ty) → List Member → Type 0
 HasBareMembers None ms = AllByRecursion IsBareMember ms
-HasBareMembers (Some t) ms = IsBareType t
+HasBareMembers (Some t) ms = IsBareType t × (ms ≡ [])
 
 pub record IsBareClass (c : Class) : Type 0 where
   pub name : IsBare c.name

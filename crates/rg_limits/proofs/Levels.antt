@@ -3,7 +3,7 @@ use Rattle.std.proofs.Common.{ℕ, suc, ◌≤◌, List, [], ◌∷◌, arith}
 use Rattle.rg_tree.specs.Tree.{stmt, StmtKind, declare, assign, assign_element, call, swap, branch, while, enter, print, collect, return}
 use Rattle.rg_tree.specs.Tree.{Else, no_else, otherwise, Block, empty, then as next, Member, field, method, Class, Tree}
 use Rattle.rg_limits.specs.Depth.{kind_levels, else_levels, block_levels, AreMembersShallow, AreClassesShallow, IsShallow}
-use Rattle.rg_within.specs.Opens.{kind_opens, else_opens, block_opens, members_opens, classes_opens, tree_opens}
+use Rattle.rg_limits.specs.Opens.{kind_opens, else_opens, block_opens, members_opens, classes_opens, tree_opens}
 
 mutual
   kind-levels : (k : StmtKind) → kind_levels k ≤ kind_opens k

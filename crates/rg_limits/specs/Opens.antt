@@ -1,4 +1,5 @@
--- How many brackets are open together at most in the canonical text of a program, by its parts, where names have none.
+-- How many brackets are open together at most in the canonical text of a program, by its parts (docs/language.md, "Limits"). Where no name has one,
+-- these are as many as its text opens (the law `OpensAreBrackets`).
 use Rattle.std.specs.Prelude.{ℕ, suc, max, nat_lt, Bool, true, false, List, [], ◌∷◌, Option, Some, None}
 use Rattle.rg_tree.specs.Tree.{Expr, number, boolean, nil, path, is_nil, neg, not, binary, size, element, Call}
 use Rattle.rg_tree.specs.Tree.{Right, value, new, new_tmp, new_iso, freeze, merge, read, more, result_of}
