@@ -29,8 +29,14 @@ abbrev pub alone : List ℕ → Sources
 alone bytes = record { file = bytes; plan = [] }
 
 -- there are lists of any length
-abbrev long-list : (n : ℕ) → (source : List ℕ) × (n < length source)
+long-list : (n : ℕ) → (source : List ℕ) × (n < length source)
 long-list n = (replicate (suc n) 0, omega (arith, length-replicate {A = ℕ} (suc n) 0))
+
+-- a file that is too long has some bytes, and so many
+pub long-file : (told : Option Told) (file : List ℕ) (most : ℕ) → HasLongFile told file most →
+    (bytes : List ℕ) × HasFile told file bytes × (most < length bytes)
+long-file None file most h = let l = long-list most in (l.0, tt, l.1)
+long-file (Some t) file most h = h
 
 -- a file that is too long is read as some source that is
 pub long-refuses : (told : Option Told) (file : List ℕ) → HasLongFile told file SOURCE_BYTES → Refuses told (in_file file) status.Long

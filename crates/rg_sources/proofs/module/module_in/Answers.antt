@@ -1,15 +1,23 @@
-use Rattle.std.proofs.Common.{◌∙◌, ap, Err}
-use Rattle.rg_sources.proofs.Read.{long-module}
+use Rattle.std.proofs.Common.{◌∙◌, sym, ap, subst, Err}
+use Rattle.rg_io.specs.Files.{HasFile}
+use Rattle.rg_tree.specs.Rows.RowTrees.{program_of}
+use Rattle.rg_sources.proofs.Read.{long-module, module-faulty, module-raised}
 use Rattle.rg_sources.proofs.module.module_in.Goals as goal
 
 pub returns-in-Err-Long-clause-brings : goal.returns-in-Err-Long-clause-brings
 returns-in-Err-Long-clause-brings g c =
     long-module (g.F.Files.told c.args.files.now) c.args.name.now (c.take_all.ensures.long (c.in-Err-Long.is ∙ ap Err c.in-Err-Long.field-0-is))
 
--- by module-faulty
 pub returns-in-Err-Fault-clause-brings : goal.returns-in-Err-Fault-clause-brings
-returns-in-Err-Fault-clause-brings g c = ?
+returns-in-Err-Fault-clause-brings g c =
+    let told = g.F.Files.told c.args.files.now in
+    let has = subst (HasFile told c.args.name.now) (sym c.bytes-2.ensures) c.in-Ok.ensures.ok in
+    let why = c.raised.ensures.fault c.in-Err-Fault.fault (c.in-Err-Fault.is ∙ ap Err c.in-Err-Fault.field-0-is) in
+    module-faulty told c.args.name.now c.bytes-2.result.now c.in-Err-Fault.fault has why
 
--- by module-raised
 pub returns-clause-brings : goal.returns-clause-brings
-returns-clause-brings g c = ?
+returns-clause-brings g c =
+    let told = g.F.Files.told c.args.files.now in
+    let has = subst (HasFile told c.args.name.now) (sym c.bytes-2.ensures) c.in-Ok.ensures.ok in
+    let accepted = c.in-Ok-raised in
+    module-raised told c.args.name.now c.bytes-2.result.now (program_of accepted.accepted.program) has accepted.ensures.ok accepted.ensures.accepted
