@@ -15,7 +15,7 @@ pub fn each_runs()
     rg_lines::same_asks();
 }
 
-/// What `pack` writes of a program is, to `exec`, programs with the answers of the program to `run`.
+/// What `pack` writes of a program does to `exec` what the program does to `run`.
 pub fn packed_runs_as()
     ensures { PackedRunsAs }
 {
