@@ -1,6 +1,6 @@
 -- What files bring, by what was read of them.
 use Rattle.std.proofs.Common.{◌≡◌, ◌<◌, ℕ, suc, inl, inr, All, List, [], ◌∷◌, length, replicate, Option, Some, None, Ok, Err}
-use Rattle.std.proofs.Common.{refl, sym, ap, subst, arith}
+use Rattle.std.proofs.Common.{refl, sym, ◌∙◌, ap, subst, arith}
 use Rattle.std.proofs.lemmas.List.{length-replicate}
 use Rattle.std.proofs.lemmas.List.Elements.{All-from_recursion}
 use Rattle.std.specs.Result.{result_err}
@@ -92,6 +92,13 @@ file-before None mid name bytes same h = tt
 file-before (Some t) None name bytes same h = absurd same
 file-before (Some t) (Some u) name bytes same h =
     let P : FileMap → Type 0 = λ m. file_bytes m name ≡ Some bytes in subst P same h
+
+-- what stays where one file is read, and then another one
+pub same-after : (old mid new : Option Told) → SameFiles old mid → SameFiles mid new → SameFiles old new
+same-after None mid new same then = let P : Option Told → Type 0 = λ x. SameFiles x new in subst P same then
+same-after (Some a) None new same then = absurd same
+same-after (Some a) (Some b) None same then = absurd then
+same-after (Some a) (Some b) (Some c) same then = then ∙ same
 
 -- where there is no program, no plan counts
 pub program-refuses : (told : Option Told) (file plan : List ℕ) (s : Status) → RefusesProgram told file s → Refuses told (with_plan file plan) s

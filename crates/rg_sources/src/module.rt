@@ -5,6 +5,7 @@ ghost use Rattle.rg_base.specs.declared.fault.Fault.{Fault};
 ghost use Rattle.rg_words.specs.declared.limits.TheConstants.{MODULE_BYTES};
 ghost use Rattle.rg_tree.specs.Rows.RowTrees.{program_of};
 ghost use Rattle.rg_io.specs.Content.{Rose};
+ghost use Rattle.rg_io.specs.Files.{SameFiles};
 ghost use Rattle.rg_rules.specs.Acceptance.{Accepted as IsAccepted};
 ghost use Rattle.rg_sources.specs.Sources.{spelt, MeansModule, faulty};
 ghost use Rattle.rg_sources.specs.Brings.{BringsRaised};
@@ -36,6 +37,7 @@ pub fn module_in<F: Files>(alloc: Global, name: &str, files: &mut F) -> Result<A
     ensures brings { BringsRaised (F.told files.old) name.now result }
     ensures source_fault { result ≡ Err Status.SourceFault →
         Rose (F.faults files.old) (F.faults files.new) }
+    ensures same_files { SameFiles (F.told files.old) (F.told files.new) }
     ensures never_fall { F.faults files.old ≤ F.faults files.new }
 {
     let bytes = match take_all(alloc, files, name, MODULE_BYTES) {

@@ -3,6 +3,7 @@
 ghost use Rattle.std.specs.Prelude.{◌≡◌, ◌≤◌, Ok, Err, MatchOption};
 ghost use Rattle.rg_tree.specs.Rows.RowTrees.{program_of};
 ghost use Rattle.rg_io.specs.Content.{Rose};
+ghost use Rattle.rg_io.specs.Files.{SameFiles};
 ghost use Rattle.rg_plan.specs.Plans.{ReadAs};
 ghost use Rattle.rg_sources.specs.Sources.{plan_for, without_images};
 ghost use Rattle.rg_sources.specs.Brings.{BringsPlan, BringsPlanned};
@@ -64,6 +65,7 @@ fn plan_in<F: Files>(
         (program_of accepted.now.program) result }
     ensures source_fault { result ≡ Err Status.SourceFault →
         Rose (F.faults files.old) (F.faults files.new) }
+    ensures same_files { SameFiles (F.told files.old) (F.told files.new) }
     ensures never_fall { F.faults files.old ≤ F.faults files.new }
 {
     let bytes = match take_all(alloc, files, name, SOURCE_BYTES) {
@@ -97,6 +99,7 @@ pub fn planned_in<F: Files>(
     ensures brings { BringsPlanned (F.told files.old) file.now plan.now result }
     ensures source_fault { result ≡ Err Status.SourceFault →
         Rose (F.faults files.old) (F.faults files.new) }
+    ensures same_files { SameFiles (F.told files.old) (F.told files.new) }
     ensures never_fall { F.faults files.old ≤ F.faults files.new }
 {
     let accepted = match accepted_in(alloc, file, files) {

@@ -1,5 +1,5 @@
 -- What was answered to a schedule.
-use Rattle.std.proofs.Common.{◌≡◌, ◌≤◌, ℕ, length, List, [], Option, Some, None, Result, Ok, Err, refl, sym, ap, subst}
+use Rattle.std.proofs.Common.{◌≡◌, ◌≤◌, ℕ, length, List, [], Option, Some, None, Result, Err, refl, sym, ap, subst}
 use Rattle.rg_io.specs.Content.{Rose, AppendsPart}
 use Rattle.rg_tree.specs.Tree.{Tree}
 use Rattle.rg_code.specs.Code.{Code}

@@ -4,7 +4,7 @@
 #![tactic(auto)]
 
 mod stops;
-mod told;
+mod telling;
 mod when;
 
 pub use when::run_planned;

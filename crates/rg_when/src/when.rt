@@ -7,7 +7,7 @@ ghost use Rattle.rg_words.specs.Answers.{CausedBeside};
 ghost use Rattle.rg_when.specs.Scheduled.{no_images, answer_with, SettlesBy, SettlesSchedule};
 
 use crate::stops::status_of;
-use crate::told::put_world;
+use crate::telling::put_world;
 use rg_base::Memory;
 use rg_check::Accepted;
 use rg_cown::Cargo;
