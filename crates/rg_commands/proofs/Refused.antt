@@ -2,11 +2,14 @@
 use Rattle.std.proofs.Common.{◌≢◌, ℕ, inl, inr, List, Option, refl}
 use Rattle.std.proofs.Common.{subst, arith}
 use Rattle.rg_io.specs.Files.{Told}
+use Rattle.rg_tree.specs.Tree.{Tree}
+use Rattle.rg_plan.specs.Plans.{PlanOf}
 use Rattle.rg_run.specs.Machine.{Kept, IsFresh}
 use Rattle.rg_words.specs.declared.status.Status.{Status}
 use Rattle.rg_words.specs.declared.status.Status.TheVariants as status
 use Rattle.rg_words.specs.Commands.{Command, Origin, origin_of}
 use Rattle.rg_sources.specs.Sources.{Sources}
+use Rattle.rg_when.specs.Scheduled.{SettlesSchedule}
 use Rattle.rg_sources.specs.Brings.{Refuses}
 use Rattle.rg_commands.specs.Settled.{Settles, source_fault, memory, SettlesCommand, Caused}
 use Rattle.rg_commands.proofs.Generated.{no-fault}
@@ -44,6 +47,11 @@ caused-unread s i o p n m c = record {
   output_never_falls = c.output_never_falls;
   notes_never_fall = c.notes_never_fall;
 }
+
+-- what was answered to a schedule is no fault of a file
+pub schedule-inside : (t : Tree) (p : PlanOf) (left : Option (List ℕ)) (s : Status) (old new : Option (List ℕ)) →
+    SettlesSchedule t p left s old new → s ≢ status.SourceFault
+schedule-inside t p left s old new h e = let P : Status → Type 0 = λ x. SettlesSchedule t p left x old new in absurd (subst P e h)
 
 -- what was answered to a source is no fault of a file
 pub settles-inside : (c : Command) (source : Sources) (left : Option (List ℕ)) (s : Status) (old new : Option (List ℕ)) (m : Kept) (still : Type 0) →

@@ -1,10 +1,8 @@
-use Rattle.std.proofs.Common.{refl, inr, subst}
+use Rattle.std.proofs.Common.{refl, inr}
 use Rattle.rg_tree.specs.Rows.RowTrees.{program_of}
-use Rattle.rg_words.specs.declared.status.Status.{Status}
 use Rattle.rg_words.specs.Commands.{when, with_plan}
-use Rattle.rg_when.specs.Scheduled.{SettlesSchedule}
 use Rattle.rg_commands.proofs.Planned.{is-read}
-use Rattle.rg_commands.proofs.Refused.{refuses-settles, refuses-caused}
+use Rattle.rg_commands.proofs.Refused.{refuses-settles, refuses-caused, schedule-inside}
 use Rattle.rg_commands.proofs.setting.Setting.answer_plan.Goals as goal
 
 pub run_planned-requires : goal.run_planned-requires
@@ -33,5 +31,4 @@ returns-in-Ok-clause-settles g c =
 
 pub returns-in-Ok-clause-source_fault : goal.returns-in-Ok-clause-source_fault
 returns-in-Ok-clause-source_fault g c = λ e.
-    let P : Status → Type 0 = λ s. SettlesSchedule (program_of c.in-Ok.planned.accepted.program) c.in-Ok.planned.plan _ s _ _ in
-    absurd (subst P e c.run_planned.ensures.settles)
+    absurd (schedule-inside (program_of c.in-Ok.planned.accepted.program) c.in-Ok.planned.plan _ _ _ _ c.run_planned.ensures.settles e)
