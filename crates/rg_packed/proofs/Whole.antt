@@ -16,8 +16,8 @@ pub spells-module : SpeltIsWithinLimits → PackedSpellsModule
 spells-module law bytes t s short =
     let size = s.size in
     record {
-      spelt = spelt-module t s.accepted (within law bytes t s) (suc (length bytes)) (omega (arith, size)) (spelt-lined bytes t s.tokens s.cuts s.spells)
-          short;
+      spelt = spelt-module t s.accepted (within law bytes t s) (suc (length bytes)) (omega (arith, size))
+          (spelt-lined bytes t s.tokens s.cuts s.spells) short;
       same = refl;
     }
 
