@@ -1,6 +1,7 @@
 -- What contracts see of a plan: cowns, and behaviours over them (docs/architecture.md, "Plans").
-use Rattle.std.specs.Prelude.{◌≡◌, ℕ, ◌==◌, Bool as Truth, ⊤, List, [], Result, Ok, Err}
+use Rattle.std.specs.Prelude.{◌≡◌, ℕ, ◌==◌, Bool as Truth, ⊤, List, [], map, take, Result, Ok, Err}
 use Rattle.std.specs.List.{list_any}
+use Rattle.rg_queues.specs.Queues.{right_in_front}
 use Rattle.rg_base.specs.declared.fault.Code.TheVariants.{Plan}
 use Rattle.rg_base.specs.declared.fault.Stop.{Stop}
 use Rattle.rg_base.specs.declared.fault.Stop.TheVariants.{Fault, Memory}
@@ -25,6 +26,14 @@ no_plan = record { cowns = []; behaviours = [] }
 -- whether a number is among some
 abbrev pub among : List ℕ → ℕ → Truth
 among ns n = list_any (λ m. m == n) ns
+
+-- the cowns of each of some behaviours
+abbrev pub all_cowns : List Turn → List (List ℕ)
+all_cowns bs = map (λ (b : Turn). b.cowns) bs
+
+-- which of some behaviours stand right in front of the one of a number in the queues of its cowns
+abbrev pub in_front_of : List Turn → (number : ℕ) → Turn → List ℕ
+in_front_of bs i b = right_in_front (take i (all_cowns bs)) b.cowns
 
 -- a value, or the number of the first line that breaks a rule
 abbrev pub Read : Type 0 → Type 0

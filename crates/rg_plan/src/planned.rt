@@ -1,6 +1,7 @@
 //! A plan, and how it grows by its lines (docs/architecture.md, "Plans").
 
 ghost use Rattle.std.specs.Prelude.{◌≡◌, ◌<◌, length, slice_get, Some};
+ghost use Rattle.rg_plan.specs.Plans.{Turn, in_front_of};
 ghost use Rattle.rg_tree.specs.Rows.RowTrees.{classes_of};
 ghost use Rattle.rg_plan.specs.Plans.{no_plan, ReadAs};
 ghost use Rattle.rg_plan.specs.Pieces.{pieces};
@@ -15,6 +16,7 @@ use crate::stop::bad;
 use crate::words::is;
 use rg_base::Stop;
 use rg_names::Book;
+use rg_queues::Queues;
 use std::alloc::Global;
 use std::marker::Model;
 
@@ -23,19 +25,22 @@ use std::marker::Model;
 pub struct Plan {
     cowns: Vec<Cown>,
     behaviours: Vec<Behaviour>,
+    queues: Queues,
 }
 
 impl Model for Plan {
     ghost use Rattle.std.specs.Prelude.{◌≤◌, length};
+    ghost use Rattle.rg_queues.specs.Queues.{AreQueues};
     ghost use Rattle.rg_plan.specs.declared.limits.TheConstants.{COWNS, BEHAVIOURS};
-    ghost use Rattle.rg_plan.specs.Plans.{PlanOf};
+    ghost use Rattle.rg_plan.specs.Plans.{PlanOf, all_cowns};
 
     ghost Value = { PlanOf };
 
     ghost view = { λ p. record { cowns = p.cowns.items; behaviours = p.behaviours.items } };
 
     ghost invariant = { λ p. (length p.cowns.items ≤ COWNS)
-        × (length p.behaviours.items ≤ BEHAVIOURS) };
+        × (length p.behaviours.items ≤ BEHAVIOURS)
+        × AreQueues (all_cowns p.behaviours.items) p.queues };
 }
 
 impl Plan {
@@ -46,6 +51,7 @@ impl Plan {
         Plan {
             cowns: Vec::new(alloc),
             behaviours: Vec::new(alloc),
+            queues: Queues::new(alloc),
         }
     }
 
@@ -79,6 +85,16 @@ impl Plan {
         &self.behaviours[i as usize]
     }
 
+    /// Which behaviours stand right in front of the one of a number in the queues of its cowns: of
+    /// each of them the last earlier one that is over it, too, if there is one.
+    pub fn in_front(&self, i: u32) -> &[u32]
+        requires { i < length self.now.behaviours }
+        ensures { (b : Turn) → slice_get self.now.behaviours i ≡ Some b →
+            result.now ≡ in_front_of self.now.behaviours i b }
+    {
+        self.queues.in_front(i)
+    }
+
     /// Adds what a line says.
     pub(crate) fn add_line(
         &mut self,
@@ -107,7 +123,7 @@ impl Plan {
             let Ok(behaviour) = when_line(alloc, book, self.cowns.as_slice(), words) else {
                 return Err(Stop::Memory);
             };
-            return self.add_behaviour(line, behaviour);
+            return self.add_behaviour(alloc, line, behaviour);
         }
         Err(bad(line))
     }
@@ -129,7 +145,12 @@ impl Plan {
     }
 
     // Adds a behaviour, if a line says one.
-    fn add_behaviour(&mut self, line: u64, behaviour: Option<Behaviour>) -> Result<(), Stop>
+    fn add_behaviour(
+        &mut self,
+        alloc: Global,
+        line: u64,
+        behaviour: Option<Behaviour>,
+    ) -> Result<(), Stop>
         ensures { ReadAs (λ u. self.new) (rules.with_turn line self.old behaviour) result }
     {
         let Some(behaviour) = behaviour else {
@@ -138,9 +159,13 @@ impl Plan {
         if self.behaviours.len() >= BEHAVIOURS {
             return Err(bad(line));
         }
-        match self.behaviours.push(behaviour) {
-            Ok(()) => Ok(()),
-            Err(_) => Err(Stop::Memory),
-        }
+        let Ok(()) = self.behaviours.reserve(1) else {
+            return Err(Stop::Memory);
+        };
+        let Ok(()) = self.queues.add(alloc, behaviour.cowns()) else {
+            return Err(Stop::Memory);
+        };
+        self.behaviours.push_reserved(behaviour);
+        Ok(())
     }
 }

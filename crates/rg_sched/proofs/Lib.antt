@@ -7,4 +7,5 @@ mod Alike
 mod Rest
 mod Named
 mod GoesOn
+mod Fronts
 mod Examples

@@ -1,17 +1,18 @@
 -- What holds behind every schedule (docs/architecture.md, "Schedules").
-use Rattle.std.specs.Prelude.{◌≡◌, ◌≢◌, ℕ, zero, suc, ◌<◌, true, false, List, [], ◌∷◌, ◌++◌, length, All, Some, None, Ok, ◌⊎◌}
-use Rattle.std.specs.Prelude.{slice_index, slice_index_or, slice_set}
+use Rattle.std.specs.Prelude.{◌≡◌, ◌≢◌, ℕ, zero, suc, ◌<◌, Bool as Truth, true, false, List, [], ◌∷◌, ◌++◌, length, All, Option, Some, None, Ok, ◌⊎◌}
+use Rattle.std.specs.Prelude.{slice_get, slice_index, slice_index_or, slice_set}
+use Rattle.std.specs.List.{list_all}
 use Rattle.rg_tree.specs.Tree.{Class, Tree}
 use Rattle.rg_rules.specs.Runs.{Running, Ran}
 use Rattle.rg_cown.specs.Cargo.{CargoList}
-use Rattle.rg_plan.specs.Plans.{Turn as Behaviour, PlanOf}
+use Rattle.rg_plan.specs.Plans.{Turn as Behaviour, PlanOf, in_front_of}
 use Rattle.rg_plan.specs.Rules.{plan_of}
 use Rattle.rg_sched.specs.Numbers.{In, Distinct}
 use Rattle.rg_sched.specs.Contents.{Empty, Away}
 use Rattle.rg_sched.specs.Behaviours.{cowns_of, share, has_ended}
 use Rattle.rg_sched.specs.Settings.{Setting, setting_of}
 use Rattle.rg_sched.specs.Atomic.{atomic, World, WorldOf}
-use Rattle.rg_sched.specs.Events.{event, world_after}
+use Rattle.rg_sched.specs.Events.{may_begin, event, world_after}
 
 -- no behaviour names a cown twice
 abbrev pub NoneTwice : Setting → Type 0
@@ -46,6 +47,18 @@ abbrev pub AllAlike : Type 0
 AllAlike =
     (classes : List Class) (s : Setting) (one other : List ℕ) → NoneTwice s → AllEnded s (world_after classes s one) →
     AllEnded s (world_after classes s other) → (world_after classes s one).told ≡ (world_after classes s other).told
+
+-- whether all of some behaviours have ended
+abbrev pub all_ended : List (Option Ran) → (numbers : List ℕ) → Truth
+all_ended runs ks = list_all (λ k. has_ended (slice_index_or runs k None)) ks
+
+-- Those that stand right in front of a behaviour in the queues of its cowns are enough to look at: where they have ended, so has every
+-- lower-numbered one that shares a cown with it.
+abbrev pub FrontsAreEnough : Type 0
+FrontsAreEnough =
+    (classes : List Class) (s : Setting) (schedule : List ℕ) (i : ℕ) (b : Behaviour) → NoneTwice s → slice_get s.behaviours i ≡ Some b →
+    all_ended (world_after classes s schedule).told.runs (in_front_of s.behaviours i b)
+    ≡ may_begin s.behaviours (world_after classes s schedule).told.runs i
 
 -- a behaviour is running
 abbrev pub IsRunning : World → (number : ℕ) → Type 0

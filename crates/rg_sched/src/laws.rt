@@ -2,7 +2,7 @@
 //! (docs/architecture.md, "Schedules").
 
 ghost use Rattle.rg_sched.specs.Laws.{PlansAreSettings, OneByOne, InPlanOrder, AllAlike};
-ghost use Rattle.rg_sched.specs.Laws.{AllSeparate, OneGoesOn};
+ghost use Rattle.rg_sched.specs.Laws.{AllSeparate, FrontsAreEnough, OneGoesOn};
 
 use rg_plan::plans_are_good;
 
@@ -28,6 +28,12 @@ pub fn ended_as_in_plan_order()
 /// So all schedules behind which each behaviour has ended give the same.
 pub fn ended_alike()
     ensures { AllAlike }
+{}
+
+/// Behind every schedule a behaviour may begin exactly where those have ended that stand right in
+/// front of it in the queues of its cowns.
+pub fn fronts_are_enough()
+    ensures { FrontsAreEnough }
 {}
 
 /// At each moment the content of each cown is at rest or in one running behaviour.

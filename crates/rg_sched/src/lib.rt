@@ -3,7 +3,8 @@
 //! other, and `WorldOf` what the one has to do with the other. The functions are laws: behind every
 //! schedule of a plan the world is a `WorldOf` (`every_schedule_is_one_by_one`), each content is at
 //! rest or in one running behaviour, and all schedules behind which each behaviour has ended give
-//! the same, that of the plan's order.
+//! the same, that of the plan's order. Whether a behaviour may begin is told by those that stand
+//! right in front of it (`fronts_are_enough`).
 #![tactic(auto)]
 
 mod laws;
@@ -11,6 +12,6 @@ mod phase;
 
 pub use laws::{
     contents_are_separate, ended_alike, ended_as_in_plan_order, every_schedule_is_one_by_one,
-    one_goes_on, plans_are_settings,
+    fronts_are_enough, one_goes_on, plans_are_settings,
 };
 pub use phase::Phase;

@@ -2,7 +2,6 @@
 use Rattle.std.proofs.Common.{◌≡◌, ℕ, ◌+◌, ◌<◌, true, false, Bool, List, [], ◌∷◌, ◌++◌, length, map, filter_map, drop, get_or, Option, Some, None, slice_get}
 use Rattle.std.proofs.Common.{append_assoc, refl, sym, ap, ◌∙◌}
 use Rattle.std.specs.Prelude.{if◌then◌else◌}
-use Rattle.std.specs.List.{list_any}
 use Rattle.std.proofs.lemmas.List.{drop_more, map-append}
 use Rattle.std.proofs.lemmas.Option.{slice_get_within, get_or_from_slice_get}
 use Rattle.rg_cown.specs.Cargo.{CargoList}
@@ -12,7 +11,6 @@ use Rattle.rg_base.specs.declared.value.Val.{Val}
 use Rattle.rg_tree.specs.Rows.Tables.{Tables}
 use Rattle.rg_tree.specs.Rows.RowTrees.{member_at}
 use Rattle.rg_tree.specs.Tree.{Member, Field, Class}
-use Rattle.rg_plan.specs.Plans.{among}
 use Rattle.rg_slots.proofs.Taken.{Next}
 use Rattle.rg_slots.specs.declared.slot.Slot.{Slot}
 use Rattle.rg_slots.specs.declared.slot.Slot.TheVariants as slot
@@ -96,21 +94,6 @@ value-more before fs f vs all new first h more =
     ap (λ z. z ++ map (λ (g : Field). opening_value g.ty) fs) more
     ∙ append_assoc vs (opening_value f.ty ∷ []) (map (λ (g : Field). opening_value g.ty) fs)
     ∙ ap (λ z. vs ++ map (λ (g : Field). opening_value g.ty) z) (sym first) ∙ h
-
--- a cown more that isn't shared
-pub any-next : (theirs mine : List ℕ) (k : ℕ) → k < length mine → among theirs (get_or mine k 0) ≡ false
-    → list_any (among theirs) (drop k mine) ≡ list_any (among theirs) mine → list_any (among theirs) (drop (k + 1) mine) ≡ list_any (among theirs) mine
-any-next theirs mine k l other h = sym (ap (list_any (among theirs)) (drop_more mine k 0 l) ∙ step (get_or mine k 0) (drop (k + 1) mine) other) ∙ h
-  where
-    step : (m : ℕ) (ms : List ℕ) → among theirs m ≡ false → list_any (among theirs) (m ∷ ms) ≡ list_any (among theirs) ms
-    step m ms e = rw e refl
-
-pub any-found : (theirs mine : List ℕ) (k : ℕ) → k < length mine → among theirs (get_or mine k 0) ≡ true
-    → list_any (among theirs) (drop k mine) ≡ list_any (among theirs) mine → true ≡ list_any (among theirs) mine
-any-found theirs mine k l found h = sym (ap (list_any (among theirs)) (drop_more mine k 0 l) ∙ step (get_or mine k 0) (drop (k + 1) mine) found) ∙ h
-  where
-    step : (m : ℕ) (ms : List ℕ) → among theirs m ≡ true → list_any (among theirs) (m ∷ ms) ≡ true
-    step m ms e = rw e refl
 
 -- the cowns of a plan, one after another
 

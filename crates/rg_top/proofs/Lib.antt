@@ -4,3 +4,4 @@ mod NoteLines
 mod Asked
 mod Answer
 mod Each
+mod Packed

@@ -2,4 +2,5 @@
 pub mod Headline
 pub mod Each
 pub mod Laws
+pub mod Packed
 pub mod Inner

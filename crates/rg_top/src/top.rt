@@ -23,7 +23,7 @@ ghost use Rattle.rg_top.specs.Headline.{ToldFault, MayTell, steps_asked, UnlessS
 ghost use Rattle.rg_top.specs.Each.{StandsForEach, AsksForEach};
 ghost use Rattle.rg_commands.specs.Asked.{Unasked, RunAsks, SayYes, input_for};
 
-use crate::laws::each_runs;
+use crate::laws::{each_runs, packed_runs_as};
 use crate::notes::{tell, tell_behind};
 use rg_base::MOST_STEPS;
 use rg_commands::{Setting, answers_are_one};
@@ -174,6 +174,7 @@ pub fn reggio<F: Files, I: Source, O: Sink, R: Sink>(
 {
     answers_are_one();
     each_runs();
+    packed_runs_as();
     match command(words) {
         None => {
             machine.is_owned();

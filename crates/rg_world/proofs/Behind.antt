@@ -1,5 +1,5 @@
 -- The event of a number, on a world over machines.
-use Rattle.std.proofs.Common.{◌≡◌, ℕ, suc, ◌<◌, inl, inr, true, false, All, List, [], ◌∷◌, ◌++◌, length, get_or, set, map, Option, Some, None, slice_get}
+use Rattle.std.proofs.Common.{◌≡◌, ℕ, suc, ◌<◌, inl, inr, Bool, true, false, All, List, [], ◌∷◌, ◌++◌, length, get_or, set, map, Option, Some, None, slice_get}
 use Rattle.std.proofs.Common.{refl, sym, ap, ◌∙◌, subst, arith}
 use Rattle.std.specs.Prelude.{slice_index}
 use Rattle.std.proofs.lemmas.List.{length-set, get_or-set_same, get_or-set_other}
@@ -13,15 +13,15 @@ use Rattle.rg_contents.specs.Laws.{IsReached, BeginningIsAllowed, RunsAreOfBehav
 use Rattle.rg_contents.specs.Rest.{IsReady}
 use Rattle.rg_first.specs.First.{IsFirst, IsOfBehaviour}
 use Rattle.rg_plan.specs.Laws.{IsGoodTurn, PlansAreGood}
-use Rattle.rg_plan.specs.Plans.{Turn as Behaviour, PlanOf}
+use Rattle.rg_plan.specs.Plans.{Turn as Behaviour, PlanOf, in_front_of}
 use Rattle.rg_sched.specs.Numbers.{In, Distinct}
 use Rattle.rg_sched.specs.Contents.{Content, Away, contents_at, givens, put, left_by}
 use Rattle.rg_sched.specs.Behaviours.{run_of, cowns_in}
 use Rattle.rg_sched.specs.Phases.{printed_by}
 use Rattle.rg_sched.specs.Settings.{Setting, setting_of}
 use Rattle.rg_sched.specs.Atomic.{World, tell}
-use Rattle.rg_sched.specs.Events.{one_more, steps_on, event, first_world, world_after}
-use Rattle.rg_sched.specs.Laws.{PlansAreSettings, AllSeparate}
+use Rattle.rg_sched.specs.Events.{may_begin, one_more, steps_on, event, first_world, world_after}
+use Rattle.rg_sched.specs.Laws.{PlansAreSettings, FrontsAreEnough, AllSeparate}
 use Rattle.rg_slots.specs.declared.slot.Slot.{Slot}
 use Rattle.rg_step.specs.Stepping.{Stepping}
 use Rattle.rg_world.specs.declared.progress.Progress.{Progress}
@@ -29,9 +29,9 @@ use Rattle.rg_world.specs.declared.progress.Standing.{Standing}
 use Rattle.rg_world.specs.declared.progress.Standing.TheVariants as stands
 use Rattle.rg_world.specs.Standing.{RunsAs, StandsAs, IsProgress}
 use Rattle.rg_world.specs.Worlds.{WorldIn, Shows, IsBehind}
-use Rattle.rg_world.specs.Inner.Steps.{all_lower, is_ended, runs_so, contents_with, Leaves}
+use Rattle.rg_world.specs.Inner.Steps.{all_ended_in, is_ended, runs_so, contents_with, Leaves}
 use Rattle.rg_world.proofs.Events.{after-push, waits, goes, done-stays, stopped-stays, contents-length, runs-length, start-length, put-away}
-use Rattle.rg_world.proofs.Shown.{told-again, runs-as, lower-same}
+use Rattle.rg_world.proofs.Shown.{told-again, runs-as, all-ended-same}
 
 at-is : {X : Type 0} → (xs : List X) (P : X → Type 0) (i : ℕ) (x : X) → All P xs → slice_get xs i ≡ Some x → P x
 at-is xs P i x all there = subst P (get_or_from_slice_get xs i x x there) (all i x (slice_get_within xs i x there))
@@ -112,19 +112,25 @@ module _ (t : Tree) (code : Code) (p : PlanOf) (images : List CargoList) (schedu
   none-told : (q : Progress) → slice_get m.progress i ≡ Some q → q.standing ≡ stands.Waiting → get_or world.told.runs i None ≡ None
   none-told q at waits = subst (λ s. StandsAs t code (get_or world.told.runs i None) s) waits (h.shows.each i q at).standing
 
-  pub waits-on : (q : Progress) → slice_get m.progress i ≡ Some q → q.standing ≡ stands.Waiting → all_lower p.behaviours m.progress i ≡ false
-      → IsBehind t code p images (schedule ++ i ∷ []) m
-  waits-on q at standing lower =
-      behind-as m world (waits t.classes p.behaviours i b world false there (none-told q at standing)
-      (sym (lower-same t code m world p.behaviours i h.shows) ∙ lower)) h.shows
+  -- whether it may begin, by those that stand right in front of it
+  may-begin : FrontsAreEnough → PlansAreSettings → (may : Bool) → all_ended_in m.progress (in_front_of p.behaviours i b) ≡ may
+      → may_begin p.behaviours world.told.runs i ≡ may
+  may-begin fronts plans may ended =
+      sym (all-ended-same t code m world (in_front_of p.behaviours i b) h.shows
+      ∙ fronts t.classes setting schedule i b (plans t h.plan.bytes p images h.plan.read) there) ∙ ended
 
-  pub begun-now : (q : Progress) (s : Stepping) (cs : List Content) → slice_get m.progress i ≡ Some q → q.standing ≡ stands.Waiting
-      → all_lower p.behaviours m.progress i ≡ true → RunsAs t code (run_of t.classes b (contents_at m.contents b.cowns) 0) s
+  pub waits-on : FrontsAreEnough → PlansAreSettings → (q : Progress) → slice_get m.progress i ≡ Some q → q.standing ≡ stands.Waiting
+      → all_ended_in m.progress (in_front_of p.behaviours i b) ≡ false → IsBehind t code p images (schedule ++ i ∷ []) m
+  waits-on fronts plans q at standing ended =
+      behind-as m world (waits t.classes p.behaviours i b world false there (none-told q at standing) (may-begin fronts plans false ended)) h.shows
+
+  pub begun-now : FrontsAreEnough → PlansAreSettings → (q : Progress) (s : Stepping) (cs : List Content) → slice_get m.progress i ≡ Some q
+      → q.standing ≡ stands.Waiting → all_ended_in m.progress (in_front_of p.behaviours i b) ≡ true → RunsAs t code (run_of t.classes b (contents_at m.contents b.cowns) 0) s
       → (run_of t.classes b (contents_at m.contents b.cowns) 0).state.output ≡ []
       → cs ≡ put b.cowns (map (λ n. Away) b.cowns) m.contents
       → IsBehind t code p images (schedule ++ i ∷ [])
       (record { progress = set m.progress i (record q { standing = stands.Running s }); contents = cs; began = m.began ++ i ∷ [] })
-  begun-now q s cs at standing lower runs silent put-is =
+  begun-now fronts plans q s cs at standing ended runs silent put-is =
       let same : contents_at m.contents b.cowns ≡ contents_at world.told.contents b.cowns = ap (λ z. contents_at z b.cowns) h.shows.contents in
       let R : List Content → Ran = λ z. run_of t.classes b z 0 in
       let r = R (contents_at world.told.contents b.cowns) in
@@ -142,7 +148,7 @@ module _ (t : Tree) (code : Code) (p : PlanOf) (images : List CargoList) (schedu
       let shown = told-again t code m world i q new b r cs (m.began ++ i ∷ []) world.turns h.shows at is (λ j d. refl) refl
       (put-is ∙ ap (put b.cowns (map (λ n. Away) b.cowns)) h.shows.contents ∙ ap (λ z. put b.cowns z world.told.contents) (sym left)) in
       behind-as _ (record { told = tell t.classes i b r world.told; began = m.began ++ i ∷ []; turns = world.turns })
-      (waits t.classes p.behaviours i b world true there none (sym (lower-same t code m world p.behaviours i h.shows) ∙ lower)
+      (waits t.classes p.behaviours i b world true there none (may-begin fronts plans true ended)
       ∙ ap (λ (z : List ℕ). record { told = tell t.classes i b r world.told; began = z ++ i ∷ []; turns = world.turns }) (sym h.shows.began))
       shown
 

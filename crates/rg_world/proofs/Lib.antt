@@ -1,7 +1,8 @@
--- Lemmas on worlds over machines.
+-- Lemmas on worlds over machines: Events is for callers, too.
+pub mod Events
 mod Empty
 mod Lists
-mod Events
+mod Fronts
 mod Shown
 mod Behind
 mod Stepped

@@ -1,8 +1,7 @@
 -- What a world shows behind a run of one behaviour that is told anew.
 use Rattle.std.proofs.Common.{◌≡◌, ◌≢◌, ℕ, zero, suc, ◌<◌, ◌⊎◌, inl, inr, true, List, [], ◌∷◌, length, get_or, set, Option, Some, None, slice_get, unwrap_or, option_map}
 use Rattle.std.proofs.Common.{refl, sym, ap, ◌∙◌, subst, arith}
-use Rattle.std.specs.Prelude.{slice_index, not, ◌||◌}
-use Rattle.std.specs.List.{range_with_len}
+use Rattle.std.specs.Prelude.{slice_index}
 use Rattle.std.proofs.lemmas.List.{length-set, get_or-set_same, get_or-set_other}
 use Rattle.std.proofs.lemmas.Option.{slice_get_within}
 use Rattle.rg_tree.specs.Tree.{Tree}
@@ -11,18 +10,18 @@ use Rattle.rg_rules.specs.Runs.{Running, Ran}
 use Rattle.rg_code.specs.Code.{Code}
 use Rattle.rg_plan.specs.Plans.{Turn as Behaviour}
 use Rattle.rg_sched.specs.Contents.{Content, put, left_by}
-use Rattle.rg_sched.specs.Behaviours.{share, is_over, has_ended}
+use Rattle.rg_sched.specs.Behaviours.{is_over, has_ended}
 use Rattle.rg_sched.specs.declared.phase.Phase.{Phase}
 use Rattle.rg_sched.specs.declared.phase.Phase.TheVariants as phase
 use Rattle.rg_sched.specs.Atomic.{tell, World}
-use Rattle.rg_sched.specs.Events.{may_begin}
+use Rattle.rg_sched.specs.Laws.{all_ended}
 use Rattle.rg_world.specs.declared.progress.Progress.{Progress}
 use Rattle.rg_world.specs.declared.progress.Standing.{Standing}
 use Rattle.rg_world.specs.declared.progress.Standing.TheVariants as stands
 use Rattle.rg_step.specs.Stepping.{Stepping}
 use Rattle.rg_world.specs.Standing.{RunsAs, StandsAs, IsProgress, phase_in}
 use Rattle.rg_world.specs.Worlds.{WorldIn, Shows}
-use Rattle.rg_world.specs.Inner.Steps.{is_ended, ended_in, all_lower, waits_so, is_waiting, runs_so, is_running}
+use Rattle.rg_world.specs.Inner.Steps.{is_ended, ended_in, all_ended_in, waits_so, is_waiting, runs_so, is_running}
 use Rattle.rg_world.proofs.Lists.{get-same, get-other, same_or_not, all-alike}
 
 some_is : {A : Type 0} → (a b : A) → Some a ≡ Some b → a ≡ b
@@ -110,12 +109,11 @@ ended-same t code m w h k = by (slice_get m.progress k) refl
     by None e = ap has_ended (sym (none-past w.told.runs k (λ l. missing-past m.progress k e (subst (λ n. k < n) (sym h.many) l))))
     by (Some p) e = ended-as t code (get_or w.told.runs k None) p.standing (h.each k p e).standing
 
--- so a behaviour may begin where each lower-numbered one that shares a cown has ended
-pub lower-same : (t : Tree) (code : Code) (m : WorldIn) (w : World) (bs : List Behaviour) (i : ℕ) → Shows t code m w
-    → all_lower bs m.progress i ≡ may_begin bs w.told.runs i
-lower-same t code m w bs i h =
-    all-alike (λ k. not (share bs i k) || ended_in (slice_get m.progress k)) (λ k. not (share bs i k) || has_ended (get_or w.told.runs k None))
-    (range_with_len 0 i) (λ k. ap (λ z. not (share bs i k) || z) (ended-same t code m w h k))
+-- so have all of some
+pub all-ended-same : (t : Tree) (code : Code) (m : WorldIn) (w : World) (ks : List ℕ) → Shows t code m w
+    → all_ended_in m.progress ks ≡ all_ended w.told.runs ks
+all-ended-same t code m w ks h =
+    all-alike (λ k. ended_in (slice_get m.progress k)) (λ k. has_ended (get_or w.told.runs k None)) ks (ended-same t code m w h)
 
 -- How a behaviour stands, by its phase
 

@@ -121,7 +121,7 @@ tells t code r old new h q (outcome.Trap kind line) sound holds shows input faul
 tells t code r old new h q outcome.InputFault sound holds shows input fault s = absurd (fault refl)
 tells t code r old new h q outcome.Memory sound holds shows input fault s = tt
 
--- the input of a step, before which nothing was read of a source without bytes
+-- the input of a step: nothing is left of a source without bytes
 
 not-risen : Rose 0 0 → ⊥
 not-risen (inl l) = omega (arith, l)
@@ -136,14 +136,14 @@ asks-or-not true = inl refl
 asks-or-not false = inr refl
 
 pub step-tells : (t : Tree) (code : Code) (r : Ran) (class : ℕ) (old new : Standing) (result : Outcome) (before after : Pending)
-    → FirstLasts → RunsAs t code r old.stepper → IsFirst t.classes class r.state → before ≡ record { held = []; ended = false }
+    → FirstLasts → RunsAs t code r old.stepper → IsFirst t.classes class r.state → before.held ≡ []
     → OnInput before after (Some []) (Some []) (OneStep code old new result)
     → UnlessAsking code (machine_in old.stepper.parts) (after ≡ before) → (result ≡ outcome.InputFault → Rose 0 0)
     → Tells t code r.state.output (one_more t.classes r) new.stepper result
 step-tells t code r class old new result before after lasts h is-first fresh fact unasked fault =
     let read-none = nothing-left fact.0 fact.1.0 fact.1.1 in
     let one = fact.2 [] (record { told = refl; ended = λ e. refl }) in
-    let start : before.held ++ (fact.0 ++ []) ≡ [] = ap (λ (z : Pending). z.held ++ (fact.0 ++ [])) fresh ∙ ap (λ z. z ++ []) read-none in
+    let start : before.held ++ (fact.0 ++ []) ≡ [] = ap (λ z. z ++ (fact.0 ++ [])) fresh ∙ ap (λ z. z ++ []) read-none in
     let step = one.1.shows t r.state h.runs (h.input ∙ sym start) in
     let q = step.0 in
     tells t code r old.stepper new.stepper h q result one.1.sound
@@ -153,4 +153,32 @@ step-tells t code r class old new result before after lasts h is-first fresh fac
     by : (q : State) → next t.classes r.state ≡ Went q → q.input ≡ after.held ++ []
         → (first_asks r.state.items ≡ true) ⊎ (first_asks r.state.items ≡ false) → q.input ≡ []
     by q went is (inl asks) = asking-input t.classes r.state q asks h.input went
-    by q went is (inr quiet) = is ∙ ap (λ (z : Pending). z.held ++ []) (unasked t r.state h.runs quiet ∙ fresh)
+    by q went is (inr quiet) = is ∙ ap (λ (z : Pending). z.held ++ []) (unasked t r.state h.runs quiet) ∙ ap (λ z. z ++ []) fresh
+
+-- nothing is left in the input behind a step
+
+same-input : (r q : State) → r.input ≡ [] → q ≡ r → q.input ≡ []
+same-input r q none same = ap (λ (z : State). z.input) same ∙ none
+
+none-asked : (t : Tree) (r q : State) (result : Outcome) → first_asks r.items ≡ true → r.input ≡ [] → Settles (next t.classes r) r q result
+    → q.input ≡ []
+none-asked t r q outcome.Running asks none s = asking-input t.classes r q asks none s.0
+none-asked t r q (outcome.Printed v) asks none s = asking-input t.classes r q asks none s.0
+none-asked t r q outcome.Done asks none s = asking-input t.classes r q asks none s.0
+none-asked t r q (outcome.Trap kind line) asks none s = same-input r q none s.1
+none-asked t r q outcome.InputFault asks none s = same-input r q none s
+none-asked t r q outcome.Memory asks none s = same-input r q none s
+
+pub still-empty : (t : Tree) (code : Code) (r : Ran) (old new : Standing) (result : Outcome) (before after : Pending)
+    → RunsAs t code r old.stepper → before.held ≡ [] → OnInput before after (Some []) (Some []) (OneStep code old new result)
+    → UnlessAsking code (machine_in old.stepper.parts) (after ≡ before) → after.held ≡ []
+still-empty t code r old new result before after h empty fact unasked = by (asks-or-not (first_asks r.state.items))
+  where
+    by : (first_asks r.state.items ≡ true) ⊎ (first_asks r.state.items ≡ false) → after.held ≡ []
+    by (inl asks) =
+        let read-none = nothing-left fact.0 fact.1.0 fact.1.1 in
+        let one = fact.2 [] (record { told = refl; ended = λ e. refl }) in
+        let start : before.held ++ (fact.0 ++ []) ≡ [] = ap (λ z. z ++ (fact.0 ++ [])) empty ∙ ap (λ z. z ++ []) read-none in
+        let step = one.1.shows t r.state h.runs (h.input ∙ sym start) in
+        nothing-left after.held [] (sym (sym step.3 ∙ none-asked t r.state step.0 result asks h.input step.1))
+    by (inr quiet) = ap (λ (z : Pending). z.held) (unasked t r.state h.runs quiet) ∙ empty

@@ -1,26 +1,22 @@
 //! One step of a running behaviour (docs/architecture.md, "Worlds").
 
 ghost use Rattle.std.specs.Prelude.{◌≡◌, ◌<◌, ℕ, suc, Some, length, option_map, IfOk};
-ghost use Rattle.rg_tree.specs.Tree.{Tree};
 ghost use Rattle.rg_tree.specs.Rows.RowTrees.{classes_of, program_of};
 ghost use Rattle.rg_rules.specs.Types.{fields_of};
 ghost use Rattle.rg_rules.specs.Runs.{Ran, Running as going};
 ghost use Rattle.rg_sched.specs.Events.{one_more};
 ghost use Rattle.rg_first.specs.First.{IsFirst, IsOfBehaviour};
-ghost use Rattle.rg_world.specs.Standing.{RunsAs, StandsAs, IsProgress};
-ghost use Rattle.rg_world.specs.Inner.Steps.{CameTo, Leaves, Tells};
+ghost use Rattle.rg_world.specs.Standing.{StandsAs, IsProgress};
+ghost use Rattle.rg_world.specs.Inner.Steps.{CameTo, Leaves};
 
 use crate::back::contents_back;
-use crate::no_input::NoInput;
+use crate::empty_input::EmptyInput;
 use crate::progress::{Progress, Standing};
 use rg_base::{Memory, Outcome, Val};
 use rg_code::CodeList;
-use rg_input::Numbers;
-use rg_lasting::first_lasts;
 use rg_names::Book;
 use rg_pace::Pacer;
 use rg_slots::Slot;
-use rg_step::Stepper;
 use std::alloc::Global;
 
 /// What a step of a behaviour came to.
@@ -33,24 +29,6 @@ pub(crate) enum Stepped {
     Ended(Vec<Slot>),
 }
 
-// Makes a step of the machine of a behaviour.
-fn step_once(
-    stepper: &mut Stepper,
-    code: &CodeList,
-    count: &mut dyn Pacer,
-    trace: &mut dyn Pacer,
-) -> Outcome
-    requires { (t : Tree) × (r : Ran) × RunsAs t code.now r stepper.old }
-    ensures { (t : Tree) (r : Ran) (class : ℕ) → RunsAs t code.now r stepper.old →
-        IsFirst t.classes class r.state →
-        Tells t code.now r.state.output (one_more t.classes r) stepper.new result }
-{
-    first_lasts();
-    let mut input = Numbers::new();
-    let mut source = NoInput;
-    stepper.step(code, &mut input, &mut source, count, trace)
-}
-
 // Makes a step of a running behaviour of a class, and says what it came to.
 fn step_on(
     standing: &mut Standing,
@@ -58,6 +36,7 @@ fn step_on(
     book: &Book<'_>,
     class: u32,
     code: &CodeList,
+    input: &mut EmptyInput,
     count: &mut dyn Pacer,
     trace: &mut dyn Pacer,
 ) -> Result<Stepped, Memory>
@@ -74,7 +53,7 @@ fn step_on(
     let Standing::Running(stepper) = standing else {
         unreachable!();
     };
-    let outcome = step_once(stepper, code, count, trace);
+    let outcome = input.step(stepper, code, count, trace);
     match outcome {
         Outcome::Running => Ok(Stepped::On),
         Outcome::Printed(v) => Ok(Stepped::Printed(v)),
@@ -100,6 +79,7 @@ pub(crate) fn advance(
     book: &Book<'_>,
     class: u32,
     code: &CodeList,
+    input: &mut EmptyInput,
     count: &mut dyn Pacer,
     trace: &mut dyn Pacer,
 ) -> Result<Option<Vec<Slot>>, Memory>
@@ -123,6 +103,7 @@ pub(crate) fn advance(
         book,
         class,
         code,
+        input,
         count,
         trace,
     )?;

@@ -8,7 +8,7 @@
 mod advance;
 mod back;
 mod begun;
-mod no_input;
+mod empty_input;
 mod progress;
 mod world;
 

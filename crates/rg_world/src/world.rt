@@ -6,13 +6,16 @@ ghost use Rattle.rg_tree.specs.Rows.RowTrees.{program_of};
 ghost use Rattle.rg_code.specs.Code.{Code};
 ghost use Rattle.rg_code.specs.Lowering.{Lowers};
 ghost use Rattle.rg_cown.specs.Cargo.{CargoList};
+ghost use Rattle.rg_plan.specs.Plans.{Turn, in_front_of};
 ghost use Rattle.rg_slots.specs.Slots.{content_in};
 ghost use Rattle.rg_world.specs.Standing.{phase_in, stepper_in};
 ghost use Rattle.rg_world.specs.Worlds.{IsBehind, IsReadFor};
-ghost use Rattle.rg_world.specs.Inner.Steps.{all_lower, is_ended, is_waiting, is_running, waiting};
+ghost use Rattle.rg_world.specs.Inner.Steps.{all_ended_in, is_ended, is_waiting, is_running};
+ghost use Rattle.rg_world.specs.Inner.Steps.{waiting};
 
 use crate::advance::advance;
 use crate::begun::begun;
+use crate::empty_input::EmptyInput;
 use crate::progress::{Progress, Standing};
 use rg_base::{Memory, Vals};
 use rg_check::Accepted;
@@ -21,8 +24,8 @@ use rg_contents::{beginning_is_allowed, runs_are_of_behaviours};
 use rg_cown::Cargo;
 use rg_pace::Pacer;
 use rg_plan::{Plan, plans_are_good};
-use rg_sched::{Phase, contents_are_separate, plans_are_settings};
-use rg_slots::{Slot, Slots, shares};
+use rg_sched::{Phase, contents_are_separate, fronts_are_enough, plans_are_settings};
+use rg_slots::{Slot, Slots};
 use rg_step::Stepper;
 use std::alloc::Global;
 use std::marker::Model;
@@ -33,6 +36,7 @@ pub struct World {
     progress: Vec<Progress>,
     slots: Slots,
     began: Vec<u32>,
+    input: EmptyInput,
 }
 
 impl Model for World {
@@ -69,6 +73,7 @@ impl World {
             progress,
             slots,
             began: Vec::new(alloc),
+            input: EmptyInput::new(),
         })
     }
 
@@ -122,6 +127,7 @@ impl World {
         plans_are_good();
         plans_are_settings();
         beginning_is_allowed();
+        fronts_are_enough();
         if !self.may_begin(plan, i) {
             return Ok(());
         }
@@ -170,6 +176,7 @@ impl World {
             &accepted.book(),
             turn.class(),
             code,
+            &mut self.input,
             count,
             trace,
         )?;
@@ -180,18 +187,16 @@ impl World {
         Ok(())
     }
 
-    // Whether each lower-numbered behaviour that shares a cown has ended.
+    // Whether those have ended that stand right in front of a behaviour in the queues of its cowns.
     fn may_begin(&self, plan: &Plan, i: u32) -> bool
         requires number { i < length plan.now.behaviours }
         requires many { length self.now.progress ≡ length plan.now.behaviours }
-        ensures { result ≡ all_lower plan.now.behaviours self.now.progress i }
+        ensures { (b : Turn) → slice_get plan.now.behaviours i ≡ Some b →
+            result ≡ all_ended_in self.now.progress (in_front_of plan.now.behaviours i b) }
     {
-        let turn = plan.behaviour(i);
-        for k in 0..i {
-            if self.has_ended(k) {
-                continue;
-            }
-            if shares(turn, plan.behaviour(k)) {
+        let front = plan.in_front(i);
+        for k in front {
+            if !self.has_ended(*k) {
                 return false;
             }
         }

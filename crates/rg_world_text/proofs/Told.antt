@@ -1,55 +1,27 @@
 -- What a world says of its behaviours is what is told of their runs, so its text grows by the text of a behaviour.
-use Rattle.std.proofs.Common.{◌≡◌, ℕ, suc, ◌+◌, ◌<◌, ◌≤◌, Bool, true, false, List, [], ◌∷◌, ◌++◌, length, drop, append_assoc, Option, Some, None}
+use Rattle.std.proofs.Common.{◌≡◌, ℕ, suc, ◌+◌, ◌<◌, ◌≤◌, List, [], ◌∷◌, ◌++◌, length, drop, append_assoc, Option, Some, None}
 use Rattle.std.proofs.Common.{slice_get, option_map, unwrap_or, refl, sym, ap, ◌∙◌, subst, arith}
-use Rattle.std.specs.Prelude.{if◌then◌else◌, slice_index_or}
-use Rattle.std.proofs.lemmas.List.{length-set, length-replicate}
+use Rattle.std.specs.Prelude.{slice_index_or}
 use Rattle.rg_base.specs.declared.value.Val.{Val}
-use Rattle.rg_tree.specs.Tree.{Tree, Class}
-use Rattle.rg_rules.specs.Runs.{Ending, Running, Done, Stopped, Ran}
+use Rattle.rg_tree.specs.Tree.{Tree}
+use Rattle.rg_rules.specs.Runs.{Ran}
 use Rattle.rg_cown.specs.Cargo.{CargoList}
 use Rattle.rg_code.specs.Code.{Code}
 use Rattle.rg_plan.specs.Plans.{Turn as Behaviour, PlanOf}
 use Rattle.rg_sched.specs.declared.phase.Phase.{Phase}
 use Rattle.rg_sched.specs.Phases.{phase_by, phase_of, printed_by}
-use Rattle.rg_sched.specs.Settings.{Setting, setting_of}
+use Rattle.rg_sched.specs.Settings.{setting_of}
 use Rattle.rg_sched.specs.Atomic.{World}
-use Rattle.rg_sched.specs.Events.{may_begin, begins, event_by, event_of, event, after, first_world, world_after}
 use Rattle.rg_world.specs.declared.progress.Progress.{Progress}
 use Rattle.rg_world.specs.declared.progress.Standing.{Standing}
 use Rattle.rg_world.specs.declared.progress.Standing.TheVariants as stands
 use Rattle.rg_world.specs.Standing.{StandsAs, phase_in}
 use Rattle.rg_world.specs.Worlds.{WorldIn, Shows, IsBehind}
+use Rattle.rg_world.proofs.Events.{runs-length}
 use Rattle.rg_world_text.specs.Text.{behaviour_text, text_from}
 use Rattle.rg_world_text.proofs.Lines.{drop-at, drop-past, right-nil}
 
 -- there are as many behaviours as the plan has
-
-event-runs : (classes : List Class) (bs : List Behaviour) (i : ℕ) (w : World) → length (event classes bs i w).told.runs ≡ length w.told.runs
-event-runs classes bs i w = by (slice_get bs i) (slice_index_or w.told.runs i None)
-  where
-    if_may : (z : Bool) (b : Behaviour) → length (if z then begins classes i b w else w).told.runs ≡ length w.told.runs
-    if_may true b = length-set w.told.runs i _
-    if_may false b = refl
-
-    if_runs : (e : Ending) (b : Behaviour) (r : Ran) → length (event_by classes i b r e w).told.runs ≡ length w.told.runs
-    if_runs Running b r = length-set w.told.runs i _
-    if_runs Done b r = refl
-    if_runs (Stopped kind line) b r = refl
-
-    by : (o : Option Behaviour) (run : Option Ran) → length (event_of classes bs i o run w).told.runs ≡ length w.told.runs
-    by None run = refl
-    by (Some b) None = if_may (may_begin bs w.told.runs i) b
-    by (Some b) (Some r) = if_runs r.ending b r
-
-after-runs : (classes : List Class) (bs : List Behaviour) (schedule : List ℕ) (w : World)
-    → length (after classes bs schedule w).told.runs ≡ length w.told.runs
-after-runs classes bs [] w = refl
-after-runs classes bs (i ∷ schedule) w = after-runs classes bs schedule (event classes bs i w) ∙ event-runs classes bs i w
-
-runs-length : (classes : List Class) (s : Setting) (schedule : List ℕ) → length (world_after classes s schedule).told.runs ≡ length s.behaviours
-runs-length classes s schedule =
-    let none : Option Ran = None in
-    after-runs classes s.behaviours schedule (first_world s) ∙ length-replicate (length s.behaviours) none
 
 pub below : (t : Tree) (code : Code) (p : PlanOf) (images : List CargoList) (schedule : List ℕ) (m : WorldIn) (i : ℕ)
     → IsBehind t code p images schedule m → i < length p.behaviours → i < length m.progress

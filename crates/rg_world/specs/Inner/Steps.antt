@@ -1,6 +1,6 @@
 -- What a step of a behaviour leaves (docs/architecture.md, "Worlds").
-use Rattle.std.specs.Prelude.{◌≡◌, ℕ, ◌||◌, not, Bool as Truth, true, false, List, [], ◌∷◌, ◌++◌, map, Option, Some, None, slice_get}
-use Rattle.std.specs.List.{list_all, range_with_len}
+use Rattle.std.specs.Prelude.{◌≡◌, ℕ, Bool as Truth, true, false, List, [], ◌∷◌, ◌++◌, map, Option, Some, None, slice_get}
+use Rattle.std.specs.List.{list_all}
 use Rattle.rg_base.specs.declared.value.Val.{Val}
 use Rattle.rg_base.specs.declared.outcome.Outcome.{Outcome}
 use Rattle.rg_base.specs.declared.outcome.Outcome.TheVariants as outcome
@@ -9,8 +9,6 @@ use Rattle.rg_rules.specs.Runs.{Running, Done, Stopped, Ran}
 use Rattle.rg_code.specs.Code.{Code}
 use Rattle.rg_held.specs.Shown.{ShowsHeld}
 use Rattle.rg_machine.specs.Parts.{machine_in}
-use Rattle.rg_plan.specs.Plans.{Turn as Behaviour}
-use Rattle.rg_sched.specs.Behaviours.{share}
 use Rattle.rg_sched.specs.Contents.{Content, put, left_by}
 use Rattle.rg_slots.specs.declared.slot.Slot.{Slot}
 use Rattle.rg_slots.specs.declared.slot.Slot.TheVariants as slots
@@ -71,9 +69,9 @@ abbrev pub ended_in : Option Progress → Truth
 ended_in None = false
 ended_in (Some p) = is_ended p.standing
 
--- whether each lower-numbered behaviour that shares a cown has ended
-abbrev pub all_lower : List Behaviour → List Progress → (number : ℕ) → Truth
-all_lower bs ps i = list_all (λ k. not (share bs i k) || ended_in (slice_get ps k)) (range_with_len 0 i)
+-- whether all of some behaviours have ended
+abbrev pub all_ended_in : List Progress → (numbers : List ℕ) → Truth
+all_ended_in ps ks = list_all (λ k. ended_in (slice_get ps k)) ks
 
 -- whether a behaviour is there and hasn't begun, and whether it is running
 abbrev pub waits_so : Standing → Truth

@@ -8,8 +8,8 @@ use Rattle.rg_world.proofs.Events.{put-none}
 use Rattle.rg_world.proofs.Shown.{runs-of}
 use Rattle.rg_world.proofs.advance.step_on.Goals as goal
 
-pub step_once-outcome-requires : goal.step_once-outcome-requires
-step_once-outcome-requires g c =
+pub step-outcome-requires : goal.step-outcome-requires
+step-outcome-requires g c =
     let t = program_of c.args.book.now.program in
     let r = c.requires.runs in
     (t, r.0, runs-of t c.args.code.now r.0 c.args.standing.now c.in-Running.stepper r.1 c.in-Running.is)

@@ -10,7 +10,8 @@ use Rattle.rg_sched.specs.Behaviours.{run_of}
 use Rattle.rg_world.specs.declared.progress.Progress.{Progress}
 use Rattle.rg_world.specs.declared.progress.Standing.TheVariants as stands
 use Rattle.rg_world.specs.Standing.{RunsAs}
-use Rattle.rg_world.specs.Inner.Steps.{all_lower, is_waiting}
+use Rattle.rg_plan.specs.Plans.{in_front_of}
+use Rattle.rg_world.specs.Inner.Steps.{all_ended_in, is_waiting}
 use Rattle.rg_world.proofs.First.{many-behind, there-is}
 use Rattle.rg_world.proofs.Opened.{silent}
 use Rattle.rg_world.proofs.Shown.{waiting-is}
@@ -26,8 +27,8 @@ pub returns-then-not-may_begin : goal.returns-then-not-may_begin
 returns-then-not-may_begin c = λ images schedule h.
     let q = waiting-is (slice_get c.args.self.now.progress c.args.i) c.requires.waits in
     let b = there-is c.args.plan.now.behaviours c.args.i c.requires.number in
-    waits-on (program_of c.args.accepted.now.program) c.args.code.now c.args.plan.now images schedule c.args.self.now h c.args.i b.0 b.1 q.0 q.1 q.2
-    (sym c.if-not-may_begin.ensures)
+    waits-on (program_of c.args.accepted.now.program) c.args.code.now c.args.plan.now images schedule c.args.self.now h c.args.i b.0 b.1
+    c.fronts_are_enough.ensures c.plans_are_settings.ensures q.0 q.1 q.2 (sym (c.if-not-may_begin.ensures b.0 b.1))
 
 pub begun-requires-clause-class : goal.begun-requires-clause-class
 begun-requires-clause-class c =
@@ -79,11 +80,13 @@ returns c = λ images schedule h.
     let s = c.in_ok-stepper.stepper in
     let here = subst (λ (z : WorldIn). IsBehind t code p images schedule z) (sym c.self.view_is) h in
     let q = waiting-is (slice_get m.progress i) (subst (λ (z : WorldIn). is_waiting (slice_get z.progress i) ≡ true) (sym c.self.view_is) c.requires.waits) in
-    let lower = subst (λ (z : WorldIn). all_lower p.behaviours z.progress i ≡ true) (sym c.self.view_is) (sym c.if-not-may_begin.ensures) in
+    let ended = subst (λ (z : WorldIn). all_ended_in z.progress (in_front_of p.behaviours i b) ≡ true) (sym c.self.view_is)
+    (sym (c.if-not-may_begin.ensures b c.behaviour.ensures)) in
     let runs = subst (λ (z : Known). RunsAs (program_of z.program) code (run_of (program_of z.program).classes b (contents_at m.contents b.cowns) 0) s)
     c.book.ensures.is c.in_ok-stepper.ensures.runs in
     let same = c.index_mut.ensures.value ∙ get_or_from_slice_get m.progress i q.0 _ q.1 in
-    let now = begun-now t code p images schedule m here i b c.behaviour.ensures q.0 s c.begun.new.slots q.1 q.2 lower runs
+    let now = begun-now t code p images schedule m here i b c.behaviour.ensures c.fronts_are_enough.ensures c.plans_are_settings.ensures
+    q.0 s c.begun.new.slots q.1 q.2 ended runs
     (silent t.classes b (contents_at m.contents b.cowns)) c.in_ok-stepper.ensures.slots in
     let with-began = subst (λ z. IsBehind t code p images (schedule ++ i ∷ [])
     (record { progress = set m.progress i (record q.0 { standing = stands.Running s }); contents = c.begun.new.slots; began = z })) (sym c.in-Ok.ensures.items) now in
