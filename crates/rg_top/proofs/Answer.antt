@@ -36,7 +36,7 @@ on-true P Q true h f = f h
 on-true P Q false h f = tt
 
 -- a fact holds under any test
-on-fact : (b : Bool) (P : Type 0) → P → OnTrue b P
+pub on-fact : (b : Bool) (P : Type 0) → P → OnTrue b P
 on-fact true P h = h
 on-fact false P h = tt
 

@@ -1,15 +1,16 @@
 -- What the top call promises, from what the layers under it have answered.
-use Rattle.std.proofs.Common.{◌≡◌, ◌≤◌, ◌⊎◌, ℕ, inl, refl, sym, ap, ◌∙◌, List, Option, subst, arith, rules}
+use Rattle.std.proofs.Common.{◌≡◌, ◌≤◌, ◌⊎◌, ℕ, inl, inr, refl, sym, ap, ◌∙◌, List, Option, subst, arith, rules}
 use Rattle.rg_io.specs.Content.{Rose}
 use Rattle.rg_io.proofs.Content.{Rose-since}
 use Rattle.rg_run.specs.Machine.{Kept}
 use Rattle.rg_words.specs.declared.status.Status.TheVariants as status
 use Rattle.rg_words.specs.Commands.{texts, may_schedule}
 use Rattle.rg_words.specs.Requests.{command_for}
+use Rattle.rg_words.specs.Statuses.{is_refusal}
 use Rattle.rg_commands.specs.Settled.{Chooses}
 use Rattle.rg_top.proofs.Answer.{Answered, answer-exactly, answer-refused, answer-complete, answer-unread}
 use Rattle.rg_top.proofs.Answer.{answer-unopened, answer-untouched, answer-output, answer-tuned, answer-usage, given-is, answer-chooses, tuned-moved}
-use Rattle.rg_top.proofs.Answer.{answer-may, settles-moved, usage-exactly}
+use Rattle.rg_top.proofs.Answer.{answer-may, settles-moved, usage-exactly, on-fact}
 use Rattle.rg_top.proofs.NoteLines.{asked-notes, asked-fault, unasked-notes, took-moved}
 use Rattle.rg_top.proofs.Asked.{asked-words, asked-moved}
 use Rattle.rg_commands.proofs.Asked.{yeses-fresh}
@@ -142,6 +143,9 @@ returns-in-Some-clause-complete g c =
     (λ i. c.answer-status.ensures.source_fault (given-is _ _ c.tell_behind-told.ensures.told (λ o. cc) (λ o. cc) ∙ i))
     (λ i. c.answer-status.ensures.caused.input_fault (given-is _ _ c.tell_behind-told.ensures.told (λ o. cc) (λ o. cc) ∙ i))
     (output-cause g c (search rules) (search rules))
+
+pub returns-in-None-clause-untouched : goal.returns-in-None-clause-untouched
+returns-in-None-clause-untouched g c = on-fact (is_refusal c.tell.result) _ (c.requires.fresh, refl, inr refl)
 
 pub returns-in-None-clause-done : goal.returns-in-None-clause-done
 returns-in-None-clause-done g c = usage-exactly _ _ _ _ status.Done c.in-None.ensures.is c.tell.ensures.told refl
