@@ -13,8 +13,8 @@ set -eu
 . "$(dirname "$0")/common.sh"
 turns=${1:-3}
 PYTHONDONTWRITEBYTECODE=1 PYTHONPATH=$here/bench python3 - "$work" "$program" "$turns" "$(command -v lua5.4 || true)" <<'PY'
-import subprocess, sys, time
-from timed import seconds, written
+import sys
+from timed import peak, seconds, written
 work, program, turns, lua = sys.argv[1], sys.argv[2], int(sys.argv[3]), sys.argv[4]
 
 NODE = "class Node { left: mut Node; value: int; }\nclass Room { first: mut Node; }\ntmp class Point { x: int; y: int; }\n"
@@ -52,21 +52,6 @@ KINDS = {
 }
 
 def run(path): return [program, "run", path, "--every", "0", "--steps", "1000000000"]
-
-def peak(words):
-    """The peak of memory in bytes, read off while it runs: that of a waited child counts the process that started it."""
-    most = 0
-    with subprocess.Popen(words, stdout=subprocess.DEVNULL, stderr=subprocess.DEVNULL) as process:
-        while process.poll() is None:
-            try:
-                with open(f"/proc/{process.pid}/status") as status:
-                    here = [int(line.split()[1]) for line in status if line.startswith("VmHWM")]
-                with open(f"/proc/{process.pid}/comm") as name:
-                    most = max([most] + here) if not name.read().startswith("python") else most
-            except OSError:
-                pass
-            time.sleep(0.0005)
-    return most * 1024
 
 print(f"{'kind':<8} {'manager':<8} {'objects':>9} {'ns/object':>10}")
 for manager in ["arena", "count", "trace"]:

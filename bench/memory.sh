@@ -2,8 +2,8 @@
 # Refuses each call for memory of a run in turn (bench/refuse.c, preloaded). The run must be the right one all the same, or end
 # with status 8: then its output is the first whole lines of the right one, and its notes are the first whole lines of the right
 # ones with `out of memory` behind them. Without a file: all programs of examples/ with `--every 1 --report`, `bulk 300`,
-# `pack` of each program of examples/, and each source that examples/rows.txt gives to `slide`, and every_second.rg, by `run`
-# and `slide` with and without a report.
+# `pack` of each program of examples/, `when` of each that has a plan, which writes nothing where it ends with 8, and each source
+# that examples/rows.txt gives to `slide`, and every_second.rg, by `run` and `slide` with and without a report.
 # It needs a C compiler, and isn't a part of the gate. Usage: bench/memory.sh [FILE [OPTION..]]
 set -eu
 words=("$@")
@@ -28,9 +28,10 @@ def run(words, number):
     with os.fdopen(reads, "rb") as told: came = told.read() != b""
     return (ran.returncode, ran.stdout, ran.stderr), came
 
-def is_cut(ran, whole):
-    """Whether a run that found no memory is the beginning of the whole one, in whole lines."""
+def is_cut(ran, whole, command):
+    """Whether a run that found no memory is the beginning of the whole one, in whole lines; that of `when` has no output."""
     status, output, notes = ran
+    if command == "when": return ran == (8, b"", CUT)
     lines = notes[: -len(CUT)]
     starts = whole[1].startswith(output) and whole[2].startswith(lines)
     return status == 8 and notes.endswith(CUT) and starts and all(text == b"" or text.endswith(b"\n") for text in (output, lines))
@@ -42,7 +43,7 @@ def tried(words):
     while True:
         ran, came = run(words, number + 1)
         if not came: return number, spared
-        if ran != whole and not is_cut(ran, whole): sys.exit(f"{' '.join(words)}: call {number + 1} refused: {ran}")
+        if ran != whole and not is_cut(ran, whole, words[0]): sys.exit(f"{' '.join(words)}: call {number + 1} refused: {ran}")
         number += 1
         spared += ran == whole
 
@@ -60,6 +61,7 @@ runs = [["run", *words]] if words else [
     *(["run", str(path), "--every", "1", "--report"] for path in sorted(examples.glob("*.rg"))),
     ["bulk", "300"],
     *(["pack", str(path)] for path in sorted(examples.glob("*.rg"))),
+    *(["when", str(path.with_suffix(".rg")), str(path)] for path in sorted(examples.glob("*.plan"))),
     *([command, path, *report] for path in slid() for command in ("run", "slide") for report in REPORTS),
 ]
 total = 0

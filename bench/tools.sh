@@ -103,6 +103,39 @@ expect 'compare: a trap' 0 'managers *  3*all wrote the same' '' "$compare trap.
 expect 'compare: a program that never ends' 0 'managers *  4*all wrote the same' '' "$compare endless.rg"
 expect 'compare: no program' 1 '' 'compare: missing: No such file or directory' "REGGIO=missing $compare seven.rg"
 
+schedule=$here/tools/schedule
+printf 'class N { v: int; }\nclass A { n: iso N; def mut add() { enter self.n as z { z.v = z.v + 1; print z.v; } } def mut spin() { while true { } } }\nmain arena { }\n' >add.rg
+printf 'cown N arena\nwhen A.add 0\nwhen A.add 0\n' >add.plan
+printf 'cown N arena\ncown N arena\nwhen A.add 0\nwhen A.spin 1\nwhen A.add 1\n' >spin.plan
+printf 'cown N arena\nwhen A.add 0 0\n' >bad.plan
+expect 'schedule: no file' 2 '' 'usage: tools/schedule *' "$schedule"
+expect 'schedule: no plan' 2 '' 'usage: tools/schedule *' "$schedule add.rg"
+expect 'schedule: three files' 2 '' 'usage: tools/schedule *' "$schedule a b c"
+expect 'schedule: an option that is none' 2 '' 'usage: tools/schedule *' "$schedule add.rg add.plan --what"
+expect 'schedule: an option without a word' 2 '' 'usage: tools/schedule *' "$schedule add.rg add.plan --many"
+expect 'schedule: an option twice' 2 '' 'usage: tools/schedule *' "$schedule add.rg add.plan --seed 1 --seed 2"
+expect 'schedule: --many with --write' 2 '' 'usage: tools/schedule *' "$schedule add.rg add.plan --many 1 --write random"
+expect 'schedule: a number that is none' 2 '' 'schedule: 1x is no number*' "$schedule add.rg add.plan --many 1x"
+expect 'schedule: too many' 2 '' 'schedule: 10001 is no number*' "$schedule add.rg add.plan --many 10001"
+expect 'schedule: a seed below 0' 2 '' 'schedule: -1 is no number*' "$schedule add.rg add.plan --seed -1"
+expect 'schedule: a way that is none' 2 '' 'schedule: up is no way: *' "$schedule add.rg add.plan --write up"
+expect 'schedule: no program' 1 '' 'schedule: missing: No such file or directory' "REGGIO=missing $schedule add.rg add.plan"
+if "$REGGIO" when add.rg add.plan </dev/null >/dev/null 2>&1; then
+  expect 'schedule: a missing file' 5 '' 'schedule: source fault' "$schedule missing add.plan"
+  expect 'schedule: a missing plan' 5 '' 'schedule: source fault' "$schedule add.rg missing"
+  expect 'schedule: a fault' 1 '' 'schedule: E20 unknown at line 2' "$schedule fault.rg add.plan"
+  expect 'schedule: another main' 1 '' 'schedule: E93 plan at line 0' "$schedule seven.rg add.plan"
+  expect 'schedule: a bad plan' 1 '' 'schedule: E93 plan at line 2' "$schedule add.rg bad.plan"
+  expect 'schedule: noise as a plan' 1 '' 'schedule: E93 plan at line *' "$schedule add.rg noise.rg"
+  expect 'schedule: more than 1 MiB' 9 '' 'schedule: source too long' "$schedule add.rg long.rg"
+  expect 'schedule: an empty plan' 1 '' 'schedule: empty.rg has no behaviour' "$schedule add.rg empty.rg"
+  expect 'schedule: a plan' 0 '*behind each all behaviours have ended, and all wrote the same' '' "$schedule add.rg add.plan --many 3"
+  expect 'schedule: one that never ends' 0 '*may never end*one behaviour waits*each other one wrote the beginning of the same' '' "$schedule add.rg spin.plan --many 3"
+  expect 'schedule: it is read' 0 'behaviour 0 A.add done*1*behaviour 1 A.add done*2' '' "$schedule add.rg add.plan --write random | $REGGIO when add.rg add.plan"
+else
+  echo 'left out: schedule (the program has no when)'
+fi
+
 heap=$here/tools/heap
 export REGGIO_WATCH=${REGGIO_WATCH:-$here/crates/rg_watch/out/rg_watch}
 if [ -x "$REGGIO_WATCH" ]; then

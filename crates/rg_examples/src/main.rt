@@ -15,7 +15,7 @@ mod shown;
 use crate::changes::judge_change;
 use crate::cuts::cut_anywhere;
 use crate::pacers::{by_a_list, never};
-use crate::programs::{PROGRAMS, settles, writes};
+use crate::programs::{PLANNED, PROGRAMS, settles, writes};
 use crate::rows::{Verdict, judge};
 use crate::shown::shows;
 use rg_io::{StdFiles, take_all};
@@ -42,16 +42,28 @@ fn example(
     input: Option<&str>,
     output: &str,
 ) -> io::Result<()> {
-    let accepted = told(writes(rt, "check", program, None, "accepted.out"));
+    let accepted = told(writes(rt, &["check", program], None, "accepted.out"));
     println!(rt; "check {program}: {accepted}")?;
-    let run = told(writes(rt, "run", program, input, output));
+    let run = told(writes(rt, &["run", program], input, output));
     println!(rt; "run {program}: {run}")?;
-    let slide = told(writes(rt, "slide", program, input, output));
+    let slide = told(writes(rt, &["slide", program], input, output));
     println!(rt; "slide {program}: {slide}")?;
-    let plain = told(writes(rt, "plain", program, input, output));
+    let plain = told(writes(rt, &["plain", program], input, output));
     println!(rt; "plain {program}: {plain}")?;
     let settled = told(settles(rt, program));
     println!(rt; "fmt of the fmt of {program}: {settled}")
+}
+
+/// Says of a program with a plan whether it runs as expected by a schedule.
+fn planned(
+    rt: &(impl Files + Print + AllocGlobal),
+    program: &str,
+    plan: &str,
+    schedule: &str,
+    output: &str,
+) -> io::Result<()> {
+    let when = told(writes(rt, &["when", program, plan], Some(schedule), output));
+    println!(rt; "when {program} {plan}: {when}")
 }
 
 /// Says of each example whether it writes what is expected.
@@ -59,11 +71,14 @@ fn examples(rt: &(impl Files + Print + AllocGlobal)) -> io::Result<()> {
     for (program, input, output) in PROGRAMS {
         example(rt, program, input, output)?;
     }
-    let text = told(writes(rt, "fmt", "every_form.rg", None, "every_form.fmt"));
+    for (program, plan, schedule, output) in PLANNED {
+        planned(rt, program, plan, schedule, output)?;
+    }
+    let text = told(writes(rt, &["fmt", "every_form.rg"], None, "every_form.fmt"));
     println!(rt; "fmt every_form.rg: {text}")?;
-    let module = told(writes(rt, "pack", "seven.rg", None, "seven.rgm"));
+    let module = told(writes(rt, &["pack", "seven.rg"], None, "seven.rgm"));
     println!(rt; "pack seven.rg: {module}")?;
-    let run = told(writes(rt, "exec", "seven.rgm", None, "seven.out"));
+    let run = told(writes(rt, &["exec", "seven.rgm"], None, "seven.out"));
     println!(rt; "exec seven.rgm: {run}")
 }
 

@@ -26,6 +26,18 @@ pub const PROGRAMS: [(&str, Option<&str>, &str); 18] = [
     ("every_form.rg", Some("every_form.in"), "every_form.out"),
 ];
 
+/// The programs that run by a plan, each with the files of its plan, its schedule and its output.
+pub const PLANNED: [(&str, &str, &str, &str); 3] = [
+    (
+        "accounts.rg",
+        "accounts.plan",
+        "accounts.in",
+        "accounts.out",
+    ),
+    ("stages.rg", "stages.plan", "stages.in", "stages.out"),
+    ("mended.rg", "mended.plan", "mended.in", "mended.out"),
+];
+
 /// The most bytes of a file.
 const MOST: usize = 1_048_576;
 
@@ -39,18 +51,17 @@ fn input_of(rt: &(impl Files + AllocGlobal), input: Option<&str>) -> Option<Vec<
     Some(bytes)
 }
 
-/// Whether a program that is given this input writes that output, and nothing to the notes; None
-/// where no memory was found, or the input can't be read.
+/// Whether a call with these words and this input writes that output, and nothing to the notes;
+/// None where no memory was found, or the input can't be read.
 pub fn writes(
     rt: &(impl Files + AllocGlobal),
-    command: &str,
-    program: &str,
+    words: &[&str],
     input: Option<&str>,
     output: &str,
 ) -> Option<bool> {
     let input = input_of(rt, input)?;
     let mut files = StdFiles::new(rt);
-    let called = call(rt.alloc(), &[command, program], &mut files, &input)?;
+    let called = call(rt.alloc(), words, &mut files, &input)?;
     match take_all(rt.alloc(), &mut files, output, MOST) {
         Ok(expected) => {
             Some(
