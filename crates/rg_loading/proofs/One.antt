@@ -10,7 +10,8 @@ use Rattle.rg_loading.specs.Loading.{Failing, too_long, no_image, FileComes, in_
 use Rattle.rg_loading.specs.Laws.{LoadsComeToOne}
 
 -- what a file comes to
-file-one : OneContent → (t : Tree) (c : Cown) (bytes : List ℕ) (r q : Result CargoList Failing) → FileComes t c bytes r → FileComes t c bytes q → r ≡ q
+file-one : OneContent → (t : Tree) (c : Cown) (bytes : List ℕ) (r q : Result CargoList Failing) → FileComes t c bytes r →
+    FileComes t c bytes q → r ≡ q
 file-one law t c bytes (Ok x) (Ok y) h g = let same = law t bytes (Some x) (Some y) h.1.0 g.1.0 in cc
 file-one law t c bytes (Ok x) (Err too_long) h g = absurd (omega (arith, h.0, g))
 file-one law t c bytes (Ok x) (Err (no_image line)) h g = absurd (g.1 x h.1)

@@ -28,7 +28,8 @@ pub fn images_in<F: Files>(
 ) -> Result<Vec<Cargo>, Status>
     ensures brings { Brings (λ images. images.items) (CownsCome (F.told files.old)
         (program_of accepted.now.program) plan.now.cowns) result }
-    ensures read { (bytes : List ℕ) → plan_of (program_of accepted.now.program) bytes ≡ Ok plan.now →
+    ensures read { (bytes : List ℕ) →
+        plan_of (program_of accepted.now.program) bytes ≡ Ok plan.now →
         IfOk result (λ images.
         IsReadFor (program_of accepted.now.program) plan.now images.items) }
     ensures source_fault { result ≡ Err Status.SourceFault →
