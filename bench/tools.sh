@@ -123,7 +123,7 @@ expect 'schedule: no program' 1 '' 'schedule: missing: No such file or directory
 if "$REGGIO" when add.rg add.plan </dev/null >/dev/null 2>&1; then
   expect 'schedule: a missing file' 5 '' 'schedule: source fault' "$schedule missing add.plan"
   expect 'schedule: a missing plan' 5 '' 'schedule: source fault' "$schedule add.rg missing"
-  expect 'schedule: a fault' 1 '' 'schedule: E20 unknown at line 2' "$schedule fault.rg add.plan"
+  expect 'schedule: a fault' 1 '' 'schedule: E20 unknown at line 3' "$schedule fault.rg add.plan"
   expect 'schedule: another main' 1 '' 'schedule: E93 plan at line 0' "$schedule seven.rg add.plan"
   expect 'schedule: a bad plan' 1 '' 'schedule: E93 plan at line 2' "$schedule add.rg bad.plan"
   expect 'schedule: noise as a plan' 1 '' 'schedule: E93 plan at line *' "$schedule add.rg noise.rg"
