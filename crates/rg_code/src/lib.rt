@@ -17,6 +17,7 @@ mod op;
 mod operands;
 mod shape;
 mod shapes;
+mod sums;
 mod texts;
 mod whole;
 
