@@ -29,6 +29,8 @@ FREE = {
 }
 # Answers that no run of a program's code comes to, as their clause on when they come says: nothing need hold behind them.
 NEVER = {"Lost"}
+# Relations on an error that say when it comes, though they speak of what is left behind it, too.
+STOPS = {"Halts"}
 # Relations on an answer that say what was left behind it, and not when it comes.
 LEFT = {"Reports", "TookNotes", "Keeping", "Making"}
 # The calls that are promised to take no memory; "*" is all of a crate but those behind it.
@@ -243,7 +245,7 @@ def bare(text):
 def speaks_of_cause(text):
     """Whether a fact, behind its premises, says more than what holds of the written arguments."""
     text = text.split(" → ")[-1]
-    return "Rose" in text or any(not re.search(r"\.new\b", fact) for fact in re.split(r" × ", text))
+    return "Rose" in text or any(not re.search(r"\.new\b", fact) or any(has(fact, s) for s in STOPS) for fact in re.split(r" × ", text))
 
 class Call:
     def __init__(self, crate, file, of, name, args, ret, clauses, trait):
@@ -291,7 +293,7 @@ class Call:
             within = told(inner[2], inner[1], None, self.imports) if inner[1] else told(inner[2] + " result", "result", None, self.imports)
             return bool({refusal, "all"} & {*within}), change if refusal in ("None", "false") else frozenset()
         if m := re.match(r"IfSome result", body): return False, frozenset()
-        if re.match(r"MatchOption result", body): return True, frozenset()
+        if re.match(r"Match(Option|Bool) result", body): return True, frozenset()
         if m := re.match(r"(OnErr|IfErr|IfNone) result (.*)", body):
             if is_error == (m[1] == "IfNone"): return False, frozenset()
             return speaks_of_cause(m[2]), frozenset() if "Rose" in m[2] else change

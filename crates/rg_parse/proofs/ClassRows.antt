@@ -27,16 +27,17 @@ use Rattle.rg_tree.specs.Table.{next, row}
 use Rattle.rg_tree.proofs.Passing.{passes}
 use Rattle.rg_tree.proofs.Stopping.{kind_is}
 use Rattle.rg_tree.specs.Adds.{Means}
-use Rattle.rg_parse.specs.declared.reader.halt.Halt.{Halt}
-use Rattle.rg_parse.specs.declared.reader.halt.Halt.TheVariants as halt
-use Rattle.rg_parse.specs.declared.reader.limits.Role.TheVariants as role
-use Rattle.rg_parse.specs.Inner.Lists.{numbers_of, IsListed}
+use Rattle.rg_reader.specs.declared.reader.halt.Halt.{Halt}
+use Rattle.rg_reader.specs.declared.reader.halt.Halt.TheVariants as halt
+use Rattle.rg_reader.specs.declared.reader.limits.Role.TheVariants as role
+use Rattle.rg_reader.specs.Lists.{numbers_of, IsListed}
 use Rattle.rg_parse.specs.Inner.Readings.{FoundClass, FoundClassRest, rest_in, IsRestIn, FoundMembers, FoundMember, FoundParams, FoundParam}
-use Rattle.rg_parse.specs.Inner.Readings.{param_symbols, param_row, FoundType, FoundCap, FoundResult, FoundBlock}
-use Rattle.rg_parse.specs.Inner.Steps.{State, Extends, Took, took, took_brace, took_paren, took_bracket, Declared, declared, found, Kept, kept, Halts}
-use Rattle.rg_parse.proofs.Growing.{extends-same, extends-trans, means-later, means-as}
-use Rattle.rg_parse.proofs.Halting.{halts-none, halts-row, halts-took, halts-declared, halts-found, halts-tables}
-use Rattle.rg_parse.proofs.Loops.{st, Along, along, means-nil, means-push, means-span}
+use Rattle.rg_parse.specs.Inner.Readings.{param_symbols, param_row, FoundBlock}
+use Rattle.rg_reader.specs.Readings.{FoundType, FoundCap, FoundResult}
+use Rattle.rg_reader.specs.Steps.{State, Extends, Took, took, took_brace, took_paren, took_bracket, Declared, declared, found, Kept, kept, Halts}
+use Rattle.rg_reader.proofs.Growing.{extends-same, extends-trans, means-later, means-as}
+use Rattle.rg_reader.proofs.Halting.{halts-none, halts-row, halts-took, halts-declared, halts-found, halts-tables}
+use Rattle.rg_reader.proofs.Loops.{st, Along, along, means-nil, means-push, means-span}
 
 -- classes
 

@@ -1,34 +1,33 @@
 -- A program is read by its rows: its classes, and main.
-use Rattle.std.proofs.Common.{◌≡◌, ◌≢◌, ℕ, ◌≤◌, List, [], ◌∷◌, ◌++◌, length, Option, Some, None, refl, sym, ◌∙◌, ap, subst, append_assoc, append-nil}
-use Rattle.std.proofs.Common.{arith}
+use Rattle.std.proofs.Common.{◌≡◌, ◌≢◌, ℕ, List, [], ◌∷◌, ◌++◌, length, Option, Some, None, refl, sym, ◌∙◌, ap, subst, append_assoc, append-nil}
 use Rattle.rg_base.specs.declared.words.Manager.{Manager}
 use Rattle.rg_base.specs.declared.words.Keyword.TheVariants as w
 use Rattle.rg_base.specs.declared.token.Kind.{Kind}
 use Rattle.rg_base.specs.declared.token.Kind.TheVariants as k
 use Rattle.rg_base.specs.declared.token.Token.{Token}
-use Rattle.rg_base.specs.declared.fault.Code.TheVariants.{Syntax}
 use Rattle.rg_tree.specs.declared.counts.Counts.{Counts}
 use Rattle.rg_tree.specs.declared.rows.Span.{Span}
 use Rattle.rg_tree.specs.declared.rows.ClassRow.{ClassRow}
 use Rattle.rg_tree.specs.Tree.{Class, Tree}
 use Rattle.rg_tree.specs.Forms as form
-use Rattle.rg_tree.specs.Phrases.{word, finish, the}
+use Rattle.rg_tree.specs.Phrases.{the}
 use Rattle.rg_tree.specs.Phrases as p
 use Rattle.rg_tree.specs.Grammar.{Reads, with_class, program_class, program_main}
-use Rattle.rg_tree.specs.Stuck.{line_at, another}
+use Rattle.rg_tree.specs.Stuck.{line_at}
 use Rattle.rg_tree.specs.Rows.RowTrees.{classes_of, block_of, program_of}
 use Rattle.rg_tree.specs.Table.{next, row}
 use Rattle.rg_tree.specs.Rows.Tables.{Tables}
 use Rattle.rg_tree.proofs.Programs.{length-classes_of}
 use Rattle.rg_tree.proofs.TreesFrom.{Begins-whole}
-use Rattle.rg_parse.specs.declared.reader.halt.Halt.{Halt}
-use Rattle.rg_parse.specs.declared.reader.halt.Halt.TheVariants as halt
-use Rattle.rg_parse.specs.Inner.Readings.{FoundClass, FoundManager, FoundBlock}
-use Rattle.rg_parse.specs.Inner.Programs.{FoundMain, Classed, classed}
-use Rattle.rg_parse.specs.Inner.Steps.{State, Took, took, found, Extends, Halts}
-use Rattle.rg_parse.proofs.Growing.{extends-same}
-use Rattle.rg_parse.proofs.Halting.{halts-row, halts-here, halts-found, halts-tables}
-use Rattle.rg_parse.proofs.Loops.{st}
+use Rattle.rg_reader.specs.declared.reader.halt.Halt.{Halt}
+use Rattle.rg_parse.specs.Inner.Readings.{FoundClass, FoundBlock}
+use Rattle.rg_reader.specs.Readings.{FoundManager}
+use Rattle.rg_parse.specs.Inner.Programs.{FoundMain}
+use Rattle.rg_reader.specs.Steps.{Classed, classed}
+use Rattle.rg_reader.specs.Steps.{State, Took, took, found, Extends, Halts}
+use Rattle.rg_reader.proofs.Growing.{extends-same}
+use Rattle.rg_reader.proofs.Halting.{halts-row, halts-here, halts-found, halts-tables}
+use Rattle.rg_reader.proofs.Loops.{st}
 
 -- where tables grow by no class, the classes stay
 pub classes-stay : {t u : Tables} → Extends t u → classes_of u ≡ classes_of t
@@ -100,11 +99,3 @@ program-end t (along_program {source = source} {ts = ts} {c = c} done e reads ha
     let all : program_of t ≡ record (f.tree) { classes = done ++ f.tree.classes } =
     f.is ∙ ap (λ xs. record (f.tree) { classes = xs }) (e ∙ sym (ap (λ ys. done ++ ys) f.none ∙ append-nil done)) in
     (f.counts, rw all (reads f.tree f.counts f.reads))
-
--- the end is expected, and tokens are left
-pub halts-finish : (a : State) → 1 ≤ length a.rest → Halts (finish ∷ []) a (halt.At Syntax) a
-halts-finish a l = record { stops = λ ss. another {y = finish} refl (λ e. some a.rest l e) }
-  where
-    some : (ts : List Token) → 1 ≤ length ts → next ts ≡ None → ⊥
-    some [] l e = absurd (omega arith)
-    some (t ∷ ts) l e = let no : ⊥ = cc in no

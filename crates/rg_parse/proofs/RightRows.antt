@@ -13,14 +13,15 @@ use Rattle.rg_tree.specs.Phrases as p
 use Rattle.rg_tree.specs.Grammar.{text, new_row, freeze_row, merge_row, input_row, result_row, value_row, new_plain, new_temporary, new_region}
 use Rattle.rg_tree.specs.Table.{next, row}
 use Rattle.rg_parse.specs.Inner.Starts.{right_start, new_start}
-use Rattle.rg_parse.specs.declared.reader.starts.RightStart.{RightStart}
-use Rattle.rg_parse.specs.declared.reader.starts.NewStart.{NewStart}
+use Rattle.rg_parse.specs.declared.starts.RightStart.{RightStart}
+use Rattle.rg_parse.specs.declared.starts.NewStart.{NewStart}
 use Rattle.std.proofs.lemmas.Bool.{false≢true}
-use Rattle.rg_parse.specs.declared.reader.starts.RightStart.TheVariants as right
-use Rattle.rg_parse.specs.declared.reader.starts.NewStart.TheVariants as new_kind
-use Rattle.rg_parse.specs.Inner.Readings.{FoundRight, FoundNew, FoundIndex, FoundCall, FoundExpr, FoundManager}
-use Rattle.rg_parse.specs.Inner.Steps.{State, Took, took, Used, used, found}
-use Rattle.rg_parse.proofs.Growing.{extends-same, extends-trans, means-later}
+use Rattle.rg_parse.specs.declared.starts.RightStart.TheVariants as right
+use Rattle.rg_parse.specs.declared.starts.NewStart.TheVariants as new_kind
+use Rattle.rg_parse.specs.Inner.Readings.{FoundRight, FoundNew}
+use Rattle.rg_reader.specs.Readings.{FoundIndex, FoundCall, FoundExpr, FoundManager}
+use Rattle.rg_reader.specs.Steps.{State, Took, took, Used, used, found}
+use Rattle.rg_reader.proofs.Growing.{extends-same, extends-trans, means-later}
 
 -- the row of each start
 

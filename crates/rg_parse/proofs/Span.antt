@@ -2,7 +2,7 @@
 use Rattle.std.proofs.Common.{ℕ, ◌<◌, ◌≤◌, List, [], ◌∷◌, arith}
 use Rattle.rg_base.specs.declared.token.Token.{Token}
 use Rattle.rg_lex.specs.Places.{AreSpans}
-use Rattle.rg_parse.specs.Inner.Heads.{AreWithin}
+use Rattle.rg_reader.specs.Heads.{AreWithin}
 
 -- spans in order end behind where they begin
 AreSpans-le : (from to : ℕ) (ts : List Token) → AreSpans from to ts → from ≤ to

@@ -26,26 +26,28 @@ use Rattle.rg_tree.specs.Stuck.{Stops, no_row, by_row, another, line_at}
 use Rattle.rg_tree.proofs.Stopping.{Stops-unique}
 use Rattle.rg_base.specs.declared.fault.Code.{Code}
 use Rattle.rg_base.specs.declared.fault.Code.TheVariants.{Syntax}
-use Rattle.rg_parse.specs.declared.reader.halt.Halt.{Halt}
-use Rattle.rg_parse.specs.declared.reader.halt.Halt.TheVariants as halt
+use Rattle.rg_reader.specs.declared.reader.halt.Halt.{Halt}
+use Rattle.rg_reader.specs.declared.reader.halt.Halt.TheVariants as halt
 use Rattle.rg_tree.specs.Rows.Tables.{Tables}
 use Rattle.rg_tree.specs.Rows.RowTrees.{path_of, expr_at, right_of, kind_over, stmt_at, stmt_of, block_over}
 use Rattle.rg_tree.specs.Rows.RowsExist.{IsPathIn, IsExprNumber, IsRightIn, IsKindIn}
 use Rattle.rg_tree.specs.Table.{next, row}
 use Rattle.rg_tree.specs.Adds.{Means}
 use Rattle.rg_tree.specs.Rows.RowsExist.{IsStmtNumber}
-use Rattle.rg_parse.specs.Inner.Lists.{numbers_of, IsListed}
+use Rattle.rg_reader.specs.Lists.{numbers_of, IsListed}
 use Rattle.rg_parse.specs.Inner.Starts.{stmt_start}
-use Rattle.rg_parse.specs.declared.reader.starts.StmtStart.{StmtStart}
-use Rattle.rg_parse.specs.declared.reader.starts.StmtStart.TheVariants as start
+use Rattle.rg_parse.specs.declared.starts.StmtStart.{StmtStart}
+use Rattle.rg_parse.specs.declared.starts.StmtStart.TheVariants as start
 use Rattle.std.proofs.lemmas.Bool.{false≢true}
-use Rattle.rg_parse.specs.Inner.Readings.{FoundKind, FoundStmt, FoundBlock, FoundStmts, FoundElse, FoundPath, FoundType, FoundRight, FoundCall}
-use Rattle.rg_parse.specs.Inner.Readings.{FoundExpr, FoundIndex, FoundGiving, set_row}
-use Rattle.rg_parse.specs.Inner.Steps.{State, Took, took, took_brace, Used, used, Declared, declared, Found, found, Kept, kept, Reset, reset}
-use Rattle.rg_parse.specs.Inner.Steps.{Halts}
-use Rattle.rg_parse.proofs.Growing.{extends-same, extends-trans, means-later}
-use Rattle.rg_parse.proofs.Halting.{halts-row, halts-here, halts-found}
-use Rattle.rg_parse.proofs.Loops.{st, Along, along, means-nil, means-push}
+use Rattle.rg_parse.specs.Inner.Readings.{FoundKind, FoundStmt, FoundBlock, FoundStmts, FoundElse, FoundRight}
+use Rattle.rg_reader.specs.Readings.{FoundPath, FoundType, FoundCall}
+use Rattle.rg_reader.specs.Readings.{FoundExpr, FoundIndex}
+use Rattle.rg_parse.specs.Inner.Readings.{FoundGiving, set_row}
+use Rattle.rg_reader.specs.Steps.{State, Took, took, took_brace, Used, used, Declared, declared, Found, found, Kept, kept, Reset, reset}
+use Rattle.rg_reader.specs.Steps.{Halts}
+use Rattle.rg_reader.proofs.Growing.{extends-same, extends-trans, means-later}
+use Rattle.rg_reader.proofs.Halting.{halts-row, halts-here, halts-found}
+use Rattle.rg_reader.proofs.Loops.{st, Along, along, means-nil, means-push}
 
 -- the row of each start
 

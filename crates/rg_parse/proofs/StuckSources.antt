@@ -11,9 +11,9 @@ use Rattle.rg_tree.specs.Phrases as p
 use Rattle.rg_tree.specs.Stuck.{Stops, line_at}
 use Rattle.rg_tree.specs.Rows.Tables.{at_first}
 use Rattle.rg_tree.proofs.Stopping.{spelt-not_stuck}
-use Rattle.rg_parse.specs.declared.reader.halt.Halt.TheVariants as halt
+use Rattle.rg_reader.specs.declared.reader.halt.Halt.TheVariants as halt
 use Rattle.rg_parse.specs.Answers.{IsStuckWith}
-use Rattle.rg_parse.specs.Inner.Steps.{State, Halts}
+use Rattle.rg_reader.specs.Steps.{State, Halts}
 
 -- where the reading of a source halts, its tokens are stuck
 pub stuck-with : (source : List ℕ) (t : TokenList) {a b : State} (code : Code) (line : ℕ) (f : Fault) → Halts (the p.Program ∷ []) a (halt.At code) b

@@ -1,10 +1,8 @@
-//! The rules of the grammar, each read by a method of the reader (docs/language.md, "Grammar").
+//! The rules of the grammar above expressions, each read by a function over the reader
+//! (docs/language.md, "Grammar").
 
-mod blocks;
-mod classes;
-mod expressions;
-mod paths;
-mod program;
-mod rights;
-mod statements;
-mod types;
+pub(crate) mod blocks;
+pub(crate) mod classes;
+pub(crate) mod program;
+pub(crate) mod rights;
+pub(crate) mod statements;

@@ -9,10 +9,10 @@ ghost use Rattle.rg_tree.specs.Rows.RowTrees.{program_of};
 ghost use Rattle.rg_tree.specs.Grammar.{Spells};
 ghost use Rattle.rg_parse.specs.Answers.{IsStuckWith};
 
-use crate::reader::Reader;
-use crate::reader::halt::Halt;
+use crate::rules::program::program;
 use rg_base::{Fault, Stop};
 use rg_lex::Tokens;
+use rg_reader::{Halt, Reader};
 use rg_tree::Program;
 use std::alloc::Global;
 
@@ -32,7 +32,7 @@ pub fn parse(alloc: Global, bytes: &[u8], tokens: &Tokens) -> Result<Program, St
         → (r : Tree) → Spells bytes.now r tokens.now.tokens → ⊥ }
 {
     let mut reader = Reader::new(alloc, bytes, tokens.as_slice());
-    match reader.program() {
+    match program(&mut reader) {
         Ok(()) => Ok(reader.into_program()),
         Err(Halt::Memory) => Err(Stop::Memory),
         Err(Halt::At(code)) => {

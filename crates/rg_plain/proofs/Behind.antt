@@ -36,7 +36,8 @@ use Rattle.rg_rules.proofs.Step.{computed-ok, stepped-went}
 use Rattle.rg_sound.proofs.Owners.Entrance.{items_of-append}
 use Rattle.rg_sound.proofs.Frames.Quiet.{went_is}
 use Rattle.rg_plain.specs.Inner.Steps.{StepIs}
-use Rattle.rg_plain.specs.Outcomes.{Settles, PrintsOrStays, EndsMain, settled_outcome, prints, item_prints}
+use Rattle.rg_plain.specs.Outcomes.{Settles, EndsMain, settled_outcome}
+use Rattle.rg_values.specs.Printing.{PrintsOrStays, prints, item_prints}
 
 -- things to do were put in front of those that were left, and nothing was printed
 pub record Goes (s u : State) : Type 0 where

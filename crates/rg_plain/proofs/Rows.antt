@@ -1,7 +1,2 @@
--- What is kept: variables, things to do, frames, labels and windows, and the machine as a whole. For callers: how main's items end.
-pub mod Local
-pub mod Item
-pub mod Frame
-pub mod Numbered
-pub mod Fit
+-- The machine as a whole. For callers: how main's items end.
 pub mod Machine

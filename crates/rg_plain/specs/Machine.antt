@@ -12,11 +12,11 @@ use Rattle.rg_sound.specs.Fit.{Fit}
 use Rattle.rg_sound.specs.Laws.{StaysFit}
 use Rattle.rg_names.specs.Table.{Table}
 use Rattle.rg_names.specs.TableOf.{IsTableOf}
-use Rattle.rg_plain.specs.declared.state.rows.TargetRow.TheVariants as target
-use Rattle.rg_plain.specs.Shown.{AreNamed}
-use Rattle.rg_plain.specs.Kept.{Kept, plain_of, shown, ItemsFit}
-use Rattle.rg_plain.specs.Fits.{TargetFits}
-use Rattle.rg_plain.specs.Regions.{RegionsFit}
+use Rattle.rg_values.specs.declared.state.rows.TargetRow.TheVariants as target
+use Rattle.rg_values.specs.Shown.{AreNamed}
+use Rattle.rg_values.specs.Kept.{Kept, plain_of, shown, ItemsFit}
+use Rattle.rg_values.specs.Fits.{TargetFits}
+use Rattle.rg_values.specs.Regions.{RegionsFit}
 use Rattle.rg_plain.specs.Outcomes.{Settles, EndsMain}
 
 -- the class table of the program that runs, once one does, and what is kept

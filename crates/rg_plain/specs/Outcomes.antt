@@ -1,11 +1,11 @@
 -- What a whole step answers, exactly, and what stands where (docs/language.md, "Steps").
-use Rattle.std.specs.Prelude.{◌≡◌, ◌≢◌, ◌⊎◌, Bool as Truth, true, false, if◌then◌else◌, List, [], ◌∷◌, ◌++◌}
+use Rattle.std.specs.Prelude.{if◌then◌else◌, ◌≡◌, ◌≢◌, ◌⊎◌, Bool as Truth, false, List, [], ◌∷◌, ◌++◌}
 use Rattle.rg_base.specs.declared.outcome.Outcome.{Outcome}
 use Rattle.rg_base.specs.declared.outcome.Outcome.TheVariants as outcome
-use Rattle.rg_tree.specs.Tree.{stmt, StmtKind, declare, assign, assign_element, call, swap, branch, while, enter, print, collect, return}
-use Rattle.rg_rules.specs.Items.{Item, Do, EndAt, LeaveAt, LeaveGiving, Back}
+use Rattle.rg_rules.specs.Items.{Item, EndAt}
 use Rattle.rg_rules.specs.State.{State}
 use Rattle.rg_rules.specs.Steps.{Stepped, Went, Trapped}
+use Rattle.rg_values.specs.Printing.{PrintsOrStays, first_prints}
 
 -- Running and Printed come where things to do are left, and Done where none is. A value is printed where Printed says so, and
 -- nowhere else. After a trap or a fault the state is as before.
@@ -16,15 +16,6 @@ Settles step old new outcome.Done = (step ≡ Went new) × (new.items ≡ []) ×
 Settles step old new (outcome.Trap kind line) = (step ≡ Trapped kind line) × (new ≡ old)
 Settles step old new outcome.InputFault = new ≡ old
 Settles step old new outcome.Memory = new ≡ old
-
--- a step that goes on has printed
-abbrev pub PrintsOrStays : Outcome → Type 0
-PrintsOrStays outcome.Running = ⊥
-PrintsOrStays (outcome.Printed v) = Unit {0}
-PrintsOrStays outcome.Done = ⊥
-PrintsOrStays (outcome.Trap kind line) = Unit {0}
-PrintsOrStays outcome.InputFault = Unit {0}
-PrintsOrStays outcome.Memory = Unit {0}
 
 -- the last thing to do, where there is one, is the end of main's block
 abbrev pub EndsMain : List Item → Type 0
@@ -40,33 +31,6 @@ settled_outcome outcome.Done empty = outcome.Done
 settled_outcome (outcome.Trap kind line) empty = outcome.Trap kind line
 settled_outcome outcome.InputFault empty = outcome.InputFault
 settled_outcome outcome.Memory empty = outcome.Memory
-
--- whether a statement prints
-abbrev pub prints : StmtKind → Truth
-prints (declare x t r) = false
-prints (assign p r) = false
-prints (assign_element p e r) = false
-prints (call c) = false
-prints (swap y p) = false
-prints (branch e first other) = false
-prints (while e body) = false
-prints (enter p z body giving) = false
-prints (print e) = true
-prints collect = false
-prints (return e) = false
-
--- whether a thing to do prints
-abbrev pub item_prints : Item → Truth
-item_prints (Do (stmt line k)) = prints k
-item_prints (EndAt k) = false
-item_prints (LeaveAt k) = false
-item_prints (LeaveGiving line k w) = false
-item_prints Back = false
-
--- whether the first thing to do prints
-abbrev pub first_prints : List Item → Truth
-first_prints [] = false
-first_prints (i ∷ rest) = item_prints i
 
 -- a step that goes on has printed where the first thing to do prints
 abbrev pub QuietOrPrints : List Item → Outcome → Type 0

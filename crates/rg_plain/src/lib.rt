@@ -6,9 +6,7 @@
 mod counting;
 mod line;
 mod machine;
-mod state;
 mod steps;
-mod values;
 
 pub use line::put_value;
 pub use machine::{CountedRun, PlainMachine};

@@ -8,22 +8,20 @@ ghost use Rattle.rg_rules.specs.Outside.Inputs.{first_asks};
 ghost use Rattle.rg_io.specs.Content.{Rose};
 ghost use Rattle.rg_input.specs.Numbers.{Follows, OnInput};
 ghost use Rattle.rg_names.specs.TableOf.{IsTableOf};
-ghost use Rattle.rg_plain.specs.Kept.{kept_of, shown};
+ghost use Rattle.rg_values.specs.Kept.{kept_of, shown};
 ghost use Rattle.rg_plain.specs.Machine.{Begins, BegunWith, Fits, KeepsFit, StepsOn, fresh};
 ghost use Rattle.rg_plain.specs.Machine.{state_of};
 ghost use Rattle.rg_plain.specs.Outcomes.{LeavesRows};
 ghost use Rattle.rg_plain.specs.Runs.{NoneAsks, RunIs, begun};
 
 use crate::counting::count;
-use crate::state::items::open;
-use crate::state::parts::Parts;
-use crate::state::rows::{FrameRow, TargetRow, WindowRow};
 use crate::steps::whole_step;
 use rg_base::{Ended, Memory, Outcome, Seen, Stop, Val, Vals};
 use rg_input::Numbers;
 use rg_io::{Sink, Source};
 use rg_names::{Book, Classes};
 use rg_tree::Program;
+use rg_values::{FrameRow, Parts, TargetRow, WindowRow, open};
 use std::alloc::Global;
 use std::marker::Model;
 
@@ -35,7 +33,7 @@ pub struct PlainMachine {
 }
 
 impl Model for PlainMachine {
-    ghost use Rattle.rg_plain.specs.Kept.{kept_of};
+    ghost use Rattle.rg_values.specs.Kept.{kept_of};
     ghost use Rattle.rg_plain.specs.Machine.{Machine};
 
     ghost Value = { Machine };

@@ -1,21 +1,7 @@
 //! The step of the thing to do that comes next (docs/language.md, "Steps").
 
-mod assign;
-mod branch;
-mod call;
-mod enter;
-mod frames;
 mod input;
-mod leave;
-mod move_;
-mod new;
-mod owners;
-mod print;
-pub(crate) mod refusal;
-mod return_;
 mod says;
-mod swap;
-pub(crate) mod targets;
 
 ghost use Rattle.std.specs.Prelude.{◌++◌, ◌∷◌, ◌≡◌, ◌≢◌, ◌≤◌, [], List, false, length, true};
 ghost use Rattle.rg_tree.specs.Rows.RowTrees.{kind_over, stmt_at};
@@ -24,33 +10,26 @@ ghost use Rattle.rg_tree.specs.Tree.{collect};
 ghost use Rattle.rg_rules.specs.Outside.Inputs.{first_asks, kind_asks};
 ghost use Rattle.rg_io.specs.Content.{Rose};
 ghost use Rattle.rg_input.specs.Numbers.{Follows, OnInput};
-ghost use Rattle.rg_plain.specs.Fits.{PartsFit};
+ghost use Rattle.rg_values.specs.Fits.{PartsFit};
 ghost use Rattle.rg_plain.specs.Inner.Inputs.{MadeOn, SettlesOn};
-ghost use Rattle.rg_plain.specs.Inner.Steps.{Makes, Stands};
-ghost use Rattle.rg_plain.specs.Kept.{kept_of, shown};
-ghost use Rattle.rg_plain.specs.Outcomes.{EndsMain, LeavesRows, prints};
+ghost use Rattle.rg_values.specs.Steps.{Makes, Stands};
+ghost use Rattle.rg_values.specs.Kept.{kept_of, shown};
+ghost use Rattle.rg_plain.specs.Outcomes.{EndsMain, LeavesRows};
+ghost use Rattle.rg_values.specs.Printing.{prints};
 ghost use Rattle.rg_plain.specs.Outcomes.{settled_outcome};
 
-use crate::state::items::{At, advance, first};
-use crate::state::parts::Parts;
-use crate::state::rows::ItemRow;
-use crate::steps::assign::right_step;
-use crate::steps::branch::{branch_step, end_step, while_step};
-use crate::steps::call::call_step;
-use crate::steps::enter::{Entrance, enter_step};
 use crate::steps::input::{Wanted, input_step};
-use crate::steps::leave::{leave_giving_step, leave_step};
-use crate::steps::print::print_step;
-use crate::steps::refusal::{Refusal, outcome, printed};
-use crate::steps::return_::{back_step, return_step};
 use crate::steps::says::{Says, said};
-use crate::steps::swap::swap_step;
-use crate::steps::targets::{Assignment, Left};
 use rg_base::Outcome;
 use rg_input::Numbers;
 use rg_io::Source;
 use rg_names::Book;
+use rg_statements::{
+    Entrance, back_step, branch_step, call_step, end_step, enter_step, leave_giving_step,
+    leave_step, print_step, return_step, right_step, swap_step, while_step,
+};
 use rg_tree::{Span, StmtKind};
+use rg_values::{Assignment, At, ItemRow, Left, Parts, Refusal, advance, first, outcome, printed};
 use std::alloc::Global;
 
 /// Does what a statement says that neither reads nor prints.

@@ -13,7 +13,8 @@ use Rattle.rg_rules.specs.Runs.{Ran, plain_from}
 use Rattle.rg_rules.proofs.Answers.{bind-ok}
 use Rattle.rg_rules.proofs.Step.{stepped-went}
 use Rattle.rg_rules.proofs.Run.{one_more, one_more-went, one_more-trapped, one_more-done, plain_from-suc}
-use Rattle.rg_plain.specs.Outcomes.{EndsMain, item_prints}
+use Rattle.rg_plain.specs.Outcomes.{EndsMain}
+use Rattle.rg_values.specs.Printing.{item_prints}
 use Rattle.rg_plain.proofs.Behind.{settles_by, ends_by}
 
 -- the second list goes on behind the first

@@ -21,7 +21,7 @@ use Rattle.rg_rules.specs.Outside.Texts.{text_of, added}
 use Rattle.rg_input.specs.Numbers.{Pending, OnInput}
 use Rattle.rg_input.proofs.Input.{OnInput-still}
 use Rattle.rg_code.specs.Code.{Code}
-use Rattle.rg_plain.specs.Kept.{shown, items_from}
+use Rattle.rg_values.specs.Kept.{shown, items_from}
 use Rattle.rg_plain.specs.Machine.{Machine, Begins}
 use Rattle.rg_plain.specs.Runs.{WroteUpTo}
 use Rattle.rg_plain.proofs.Rows.Machine.{ends-items_of}

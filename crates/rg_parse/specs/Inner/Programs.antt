@@ -1,20 +1,12 @@
 -- What is read of a whole program (docs/language.md, "Grammar").
-use Rattle.std.specs.Prelude.{ℕ, ◌≡◌, List, [], ◌∷◌, ◌++◌}
-use Rattle.rg_base.specs.declared.token.Token.{Token}
+use Rattle.std.specs.Prelude.{◌≡◌, []}
 use Rattle.rg_tree.specs.declared.counts.Counts.{Counts}
-use Rattle.rg_tree.specs.declared.rows.ClassRow.{ClassRow}
 use Rattle.rg_tree.specs.Tree.{Tree}
 use Rattle.rg_tree.specs.Forms as form
 use Rattle.rg_tree.specs.Grammar.{Reads}
-use Rattle.rg_tree.specs.Rows.RowTrees.{class_of, classes_of, program_of}
+use Rattle.rg_tree.specs.Rows.RowTrees.{classes_of, program_of}
 use Rattle.rg_tree.specs.Rows.Tables.{Tables}
-use Rattle.rg_parse.specs.Inner.Steps.{State}
-
--- a class is put last, and nothing is read
-pub data Classed : State → ClassRow → State → Type 0 where
-  classed : {source : List ℕ} {ts : List Token} {c : Counts} {u v : Tables} {r : ClassRow}
-      → classes_of v ≡ classes_of u ++ class_of u r ∷ []
-      → Classed (record { source = source; rest = ts; counts = c; tables = u }) r (record { source = source; rest = ts; counts = c; tables = v })
+use Rattle.rg_reader.specs.Steps.{State}
 
 -- main is read to the end, and the tables are those of a program with the classes that were there
 pub record FoundMain (a : State) (t : Tables) : Type 0 where

@@ -1,7 +1,5 @@
 -- What each reader of the parser reads: a form of the grammar, and a row that stands for its tree (docs/language.md, "Grammar").
-use Rattle.std.specs.Prelude.{ℕ, ◌≡◌, ⊤, List, [], ◌∷◌, length, Option, Some, None, Ok, map, option_map, IfSome}
-use Rattle.rg_base.specs.declared.words.Cap.{Cap}
-use Rattle.rg_base.specs.declared.words.Manager.{Manager}
+use Rattle.std.specs.Prelude.{ℕ, ◌≡◌, List, [], ◌∷◌, length, Option, Some, None, Ok, map, option_map, IfSome}
 use Rattle.rg_base.specs.declared.words.Sign.TheVariants as s
 use Rattle.rg_base.specs.declared.token.Kind.TheVariants as k
 use Rattle.rg_base.specs.declared.token.Token.{Token}
@@ -9,15 +7,13 @@ use Rattle.rg_tree.specs.declared.counts.Counts.{Counts}
 use Rattle.rg_tree.specs.declared.rows.Span.{Span}
 use Rattle.rg_tree.specs.declared.rows.Path as row_path
 use Rattle.rg_tree.specs.declared.rows.TypeRow.{TypeRow}
-use Rattle.rg_tree.specs.declared.rows.CallRow.{CallRow}
 use Rattle.rg_tree.specs.declared.rows.MemberRow.{MemberRow}
 use Rattle.rg_tree.specs.declared.rows.ClassRow.{ClassRow}
 use Rattle.rg_tree.specs.declared.rows.Right as row_right
 use Rattle.rg_tree.specs.declared.rows.StmtKind as row_kind
 use Rattle.rg_tree.specs.declared.rows.StmtKind.TheVariants as kind_row
-use Rattle.rg_tree.specs.declared.rows.ExprRow.{ExprRow}
-use Rattle.rg_tree.specs.Counts.{opened, closed, no_signs, one_param}
-use Rattle.rg_tree.specs.Tree.{Name, Variable, Path, Ty, Expr, Param, Member, stmt}
+use Rattle.rg_tree.specs.Counts.{no_signs, one_param}
+use Rattle.rg_tree.specs.Tree.{Name, Path, Ty, Param, Member, stmt}
 use Rattle.rg_tree.specs.Forms as form
 use Rattle.rg_tree.specs.Forms.{Given}
 use Rattle.rg_tree.specs.Phrases.{Symbol, param_name, mark, the}
@@ -25,29 +21,12 @@ use Rattle.rg_tree.specs.Phrases as p
 use Rattle.rg_tree.specs.Grammar.{Reads, text}
 use Rattle.rg_tree.specs.Stuck.{line_at}
 use Rattle.rg_tree.specs.Rows.Tables.{Tables, name_at, numbers_in}
-use Rattle.rg_tree.specs.Rows.RowTrees.{path_of, type_of, expr_at, expr_of, call_of, right_of, stmt_at, block_of, kind_over, else_over, param_at}
+use Rattle.rg_tree.specs.Rows.RowTrees.{type_of, right_of, stmt_at, block_of, kind_over, else_over, param_at}
 use Rattle.rg_tree.specs.Rows.RowTrees.{member_at, member_of, members_under, class_of}
-use Rattle.rg_tree.specs.Rows.RowsExist.{IsSpanBelow, IsNameIn, IsPathIn, IsTypeIn, IsExprIn, IsCallIn, IsRightIn, IsKindIn, IsBlockIn, IsExprNumber}
+use Rattle.rg_tree.specs.Rows.RowsExist.{IsSpanBelow, IsNameIn, IsTypeIn, IsRightIn, IsKindIn, IsBlockIn}
 use Rattle.rg_tree.specs.Rows.RowsExist.{IsMemberIn, IsClassIn, IsStmtNumber, IsParamNumber}
-use Rattle.rg_parse.specs.declared.reader.halt.Halt.{Halt}
-use Rattle.rg_parse.specs.declared.reader.kinds.Level.{Level}
-use Rattle.rg_parse.specs.Inner.Levels.{ReadsChain, ReadsOperand}
-use Rattle.rg_parse.specs.Inner.Steps.{State, Found, Halts}
-
--- a capability, and a manager
-abbrev pub FoundCap : State → Cap → State → Type 0
-FoundCap = Found (λ source. Reads source form.Cap) (λ t a. a) (λ t a. ⊤)
-
-abbrev pub FoundManager : State → Manager → State → Type 0
-FoundManager = Found (λ source. Reads source form.Manager) (λ t m. m) (λ t m. ⊤)
-
--- a type
-abbrev pub FoundType : State → TypeRow → State → Type 0
-FoundType = Found (λ source. Reads source form.Type') type_of IsTypeIn
-
--- the type of a result
-abbrev pub FoundResult : State → Option TypeRow → State → Type 0
-FoundResult = Found (λ source. Reads source form.Result) (λ t o. option_map (type_of t) o) (λ t o. IfSome o (IsTypeIn t))
+use Rattle.rg_reader.specs.declared.reader.halt.Halt.{Halt}
+use Rattle.rg_reader.specs.Steps.{State, Found, Halts}
 
 -- parameters
 abbrev pub params_in : Tables → Span → List Param
@@ -55,59 +34,6 @@ params_in t s = map (param_at t) (numbers_in t s)
 
 abbrev pub FoundParams : State → Span → State → Type 0
 FoundParams = Found (λ source. Reads source form.Params) params_in (λ t. IsSpanBelow t (length t.params))
-
--- a path
-abbrev pub FoundPath : State → row_path.Path → State → Type 0
-FoundPath = Found (λ source. Reads source form.Path) path_of IsPathIn
-
--- the fields of a path
-abbrev pub names_in : Tables → Span → List Name
-names_in t s = map (name_at t) (numbers_in t s)
-
-abbrev pub FoundFields : State → Span → State → Type 0
-FoundFields = Found (λ source. Reads source form.Fields) names_in (λ t. IsSpanBelow t (length t.names))
-
--- what a call begins with
-abbrev pub FoundBase : State → Option ℕ → State → Type 0
-FoundBase = Found (λ source. Reads source form.CallBase) (λ t. option_map (name_at t)) (λ t b. IfSome b (IsNameIn t))
-
--- what stands behind the first name of a call
-abbrev pub FoundCallRest : Variable → Name → State → CallRow → State → Type 0
-FoundCallRest b m = Found (λ source. Reads source (form.CallRest (record { base = b; fields = [] }) m)) call_of IsCallIn
-
--- a call, and its arguments
-abbrev pub FoundCall : State → CallRow → State → Type 0
-FoundCall = Found (λ source. Reads source form.Call) call_of IsCallIn
-
-abbrev pub exprs_in : Tables → Span → List Expr
-exprs_in t s = map (expr_at t) (numbers_in t s)
-
-abbrev pub FoundArgs : State → Span → State → Type 0
-FoundArgs = Found (λ source. Reads source form.Args) exprs_in (λ t. IsSpanBelow t (length t.exprs))
-
--- the arguments of a call in their parentheses, whatever stands in front
-abbrev pub FoundCallArgs : State → Span → State → Type 0
-FoundCallArgs =
-    Found (λ source c ts as' d us.
-    (q : Path) (m : Name) → Reads source (form.CallRest q m) c ts (record { target = q; method = m; args = as' }) d us)
-    exprs_in (λ t. IsSpanBelow t (length t.exprs))
-
--- an expression in brackets
-pub data ReadsIndex (source : List ℕ) : Counts → List Token → Expr → Counts → List Token → Type 0 where
-  index_row : {c d e : Counts} {t u : Token} {ts us : List Token} {a : Expr}
-      → t.kind ≡ k.Mark s.OpenBracket → opened c ≡ Ok d → Reads source form.Expr d ts a e (u ∷ us) → u.kind ≡ k.Mark s.CloseBracket
-      → ReadsIndex source c (t ∷ ts) a (closed e) us
-
--- what an expression in brackets expects
-abbrev pub index_symbols : List Symbol
-index_symbols = mark s.OpenBracket ∷ the p.Expr ∷ mark s.CloseBracket ∷ []
-
-abbrev pub FoundSomeIndex : State → ℕ → State → Type 0
-FoundSomeIndex = Found ReadsIndex expr_at IsExprNumber
-
--- an expression in brackets, or nothing
-abbrev pub FoundIndex : State → Option ℕ → State → Type 0
-FoundIndex = Found (λ source. Reads source form.At) (λ t. option_map (expr_at t)) (λ t o. IfSome o (IsExprNumber t))
 
 -- a right side
 abbrev pub FoundRight : State → row_right.Right → State → Type 0
@@ -190,29 +116,3 @@ FoundClassRest = Found (λ source. Reads source form.ClassRest) rest_in IsRestIn
 -- a class
 abbrev pub FoundClass : State → ClassRow → State → Type 0
 FoundClass = Found (λ source. Reads source form.Class) class_of IsClassIn
-
--- expressions, by what they are operands of
-abbrev pub FoundExpr : State → ℕ → State → Type 0
-FoundExpr = Found (λ source. Reads source form.Expr) expr_at IsExprNumber
-
-abbrev pub FoundChain : Level → State → ℕ → State → Type 0
-FoundChain l = Found (ReadsChain l) expr_at IsExprNumber
-
-abbrev pub FoundOperand : Level → State → ℕ → State → Type 0
-FoundOperand l = Found (ReadsOperand l) expr_at IsExprNumber
-
-abbrev pub FoundNot : State → ℕ → State → Type 0
-FoundNot = Found (λ source. Reads source form.Not) expr_at IsExprNumber
-
-abbrev pub FoundCmp : State → ℕ → State → Type 0
-FoundCmp = Found (λ source. Reads source form.Cmp) expr_at IsExprNumber
-
-abbrev pub FoundUnary : State → ℕ → State → Type 0
-FoundUnary = Found (λ source. Reads source form.Unary) expr_at IsExprNumber
-
--- what stands behind a path
-abbrev pub FoundIs : Path → State → ExprRow → State → Type 0
-FoundIs q = Found (λ source. Reads source (form.Is q)) expr_of (λ t r. IsExprIn t (length t.exprs) r)
-
-abbrev pub FoundPrimary : State → ℕ → State → Type 0
-FoundPrimary = Found (λ source. Reads source form.Primary) expr_at IsExprNumber

@@ -13,11 +13,11 @@ use Rattle.rg_names.specs.Table.{Table}
 use Rattle.rg_names.specs.TableOf.{IsTableOf}
 use Rattle.rg_store.specs.Shown.{seen_of}
 use Rattle.rg_store.specs.Regions.{LabelFits}
-use Rattle.rg_plain.specs.declared.state.parts.Parts.{Parts}
-use Rattle.rg_plain.specs.Shown.{AreNamed}
-use Rattle.rg_plain.specs.Fits.{PartsFit, TargetFits}
-use Rattle.rg_plain.specs.declared.state.rows.WindowRow.{WindowRow}
-use Rattle.rg_plain.specs.Kept.{Kept, FrameKept, kept_of, kept_frame, shown, plain_of}
+use Rattle.rg_values.specs.declared.state.parts.Parts.{Parts}
+use Rattle.rg_values.specs.Shown.{AreNamed}
+use Rattle.rg_values.specs.Fits.{PartsFit, TargetFits}
+use Rattle.rg_values.specs.declared.state.rows.WindowRow.{WindowRow}
+use Rattle.rg_values.specs.Kept.{Kept, FrameKept, kept_of, kept_frame, shown, plain_of}
 use Rattle.rg_plain.specs.Inner.Inputs.{SettlesOn}
 use Rattle.rg_plain.specs.Outcomes.{EndsMain}
 use Rattle.rg_plain.specs.Machine.{Machine, fresh, KeptFits, Fits, BegunWith, Begins}

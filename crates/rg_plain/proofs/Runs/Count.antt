@@ -12,7 +12,7 @@ use Rattle.rg_rules.specs.Outside.Inputs.{first_asks}
 use Rattle.rg_rules.specs.State.{State}
 use Rattle.rg_rules.specs.Steps.{next}
 use Rattle.rg_plain.specs.Inner.Counts.{CountIs}
-use Rattle.rg_plain.specs.Kept.{shown}
+use Rattle.rg_values.specs.Kept.{shown}
 use Rattle.rg_plain.specs.Machine.{Machine, StepsOn, state_of}
 use Rattle.rg_plain.specs.Outcomes.{Settles, LeavesRows}
 use Rattle.rg_plain.specs.Runs.{RunShows, IsState, NoneAsks, CutOff, begun}

@@ -7,12 +7,13 @@ use Rattle.rg_tree.specs.Rows.Tables.{Tables, name_at}
 use Rattle.rg_tree.specs.Rows.RowTrees.{classes_of, block_of}
 use Rattle.rg_tree.specs.Tree.{Block, empty as no_more, then as followed_by}
 use Rattle.rg_rules.specs.Items.{Item, Do, EndAt, LeaveAt, LeaveGiving, Back, items_of}
-use Rattle.rg_plain.specs.declared.state.rows.ItemRow.{ItemRow}
-use Rattle.rg_plain.specs.declared.state.rows.ItemRow.TheVariants as row
-use Rattle.rg_plain.specs.Kept.{Kept, items_from, put_row, shown, plain_of, ItemFits, ItemsFit}
+use Rattle.rg_values.specs.declared.state.rows.ItemRow.{ItemRow}
+use Rattle.rg_values.specs.declared.state.rows.ItemRow.TheVariants as row
+use Rattle.rg_values.specs.Kept.{Kept, items_from, put_row, shown, plain_of, ItemFits, ItemsFit}
 use Rattle.rg_plain.specs.Inner.Inputs.{StepOn, SettlesOn}
-use Rattle.rg_plain.specs.Outcomes.{EndsMain, PrintsOrStays, QuietOrPrints, LeavesRows, item_prints, first_prints, settled_outcome}
-use Rattle.rg_plain.proofs.Rows.Item.{shown-none, put_row-first}
+use Rattle.rg_plain.specs.Outcomes.{EndsMain, QuietOrPrints, LeavesRows, settled_outcome}
+use Rattle.rg_values.specs.Printing.{PrintsOrStays, item_prints, first_prints}
+use Rattle.rg_values.proofs.Item.{shown-none, put_row-first}
 use Rattle.rg_plain.proofs.Behind.{MadeOf, settles, ends_main}
 
 -- things to do are there

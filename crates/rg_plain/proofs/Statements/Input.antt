@@ -17,18 +17,19 @@ use Rattle.rg_input.specs.declared.refusal.NumberRefusal.{NumberRefusal}
 use Rattle.rg_input.specs.declared.refusal.NumberRefusal.TheVariants as no
 use Rattle.rg_input.specs.Numbers.{Pending, OnInput, Answers, Looks, is_more}
 use Rattle.rg_input.proofs.Input.{OnInput-still}
-use Rattle.rg_plain.specs.declared.state.rows.ItemRow.{ItemRow}
+use Rattle.rg_values.specs.declared.state.rows.ItemRow.{ItemRow}
 use Rattle.rg_plain.specs.declared.steps.input.Wanted.{Wanted}
 use Rattle.rg_plain.specs.declared.steps.input.Wanted.TheVariants as wanted
-use Rattle.rg_plain.specs.declared.steps.targets.Left.{Left}
-use Rattle.rg_plain.specs.declared.steps.targets.Aim.{Aim}
-use Rattle.rg_plain.specs.declared.steps.refusal.Refusal.{Refusal}
-use Rattle.rg_plain.specs.declared.steps.refusal.Refusal.TheVariants as refused
-use Rattle.rg_plain.specs.Inner.Steps.{StepIs, Does, DoesPrint, Makes, Prints, outcome_of, printed_of}
-use Rattle.rg_plain.specs.Kept.{Kept, plain_of, shown}
-use Rattle.rg_plain.specs.Inner.Spots.{AimIs, statement_of, use_of}
+use Rattle.rg_values.specs.declared.targets.Left.{Left}
+use Rattle.rg_values.specs.declared.targets.Aim.{Aim}
+use Rattle.rg_values.specs.declared.refusal.Refusal.{Refusal}
+use Rattle.rg_values.specs.declared.refusal.Refusal.TheVariants as refused
+use Rattle.rg_plain.specs.Inner.Steps.{StepIs}
+use Rattle.rg_values.specs.Steps.{Does, DoesPrint, Makes, Prints, outcome_of, printed_of}
+use Rattle.rg_values.specs.Kept.{Kept, plain_of, shown}
+use Rattle.rg_values.specs.Spots.{AimIs, statement_of, use_of}
 use Rattle.rg_plain.specs.Inner.Inputs.{StepOn, Gave, refused_by, right_for}
-use Rattle.rg_plain.proofs.Statements.Step.{next-at}
+use Rattle.rg_statements.proofs.Step.{next-at}
 
 -- a step that reads nothing
 pub reads_nothing : (t : Tables) (old new : Kept) (r : Outcome) (n : Pending) (left : Option (List ℕ)) →

@@ -4,13 +4,14 @@ use Rattle.rg_base.specs.declared.outcome.Outcome.{Outcome}
 use Rattle.rg_base.specs.declared.outcome.Outcome.TheVariants as outcome
 use Rattle.rg_tree.specs.Rows.Tables.{Tables}
 use Rattle.rg_input.specs.Numbers.{Follows, OnInput, Pending}
-use Rattle.rg_plain.specs.declared.state.parts.Parts.{Parts}
-use Rattle.rg_plain.specs.declared.steps.refusal.Refusal.{Refusal}
-use Rattle.rg_plain.specs.Fits.{PartsFit}
+use Rattle.rg_values.specs.declared.state.parts.Parts.{Parts}
+use Rattle.rg_values.specs.declared.refusal.Refusal.{Refusal}
+use Rattle.rg_values.specs.Fits.{PartsFit}
 use Rattle.rg_plain.specs.Inner.Inputs.{MadeOn, StepOn}
-use Rattle.rg_plain.specs.Inner.Steps.{GoesOn, Makes, outcome_of}
-use Rattle.rg_plain.specs.Kept.{kept_of, shown}
-use Rattle.rg_plain.specs.Outcomes.{QuietOrPrints, first_prints}
+use Rattle.rg_values.specs.Steps.{GoesOn, Makes, outcome_of}
+use Rattle.rg_values.specs.Kept.{kept_of, shown}
+use Rattle.rg_plain.specs.Outcomes.{QuietOrPrints}
+use Rattle.rg_values.specs.Printing.{first_prints}
 use Rattle.rg_plain.proofs.Statements.Input.{reads_nothing, does}
 
 -- one that doesn't end with a fault of the input

@@ -14,11 +14,11 @@ use Rattle.rg_io.specs.Content.{Rose}
 use Rattle.rg_input.specs.declared.refusal.NumberRefusal.{NumberRefusal}
 use Rattle.rg_input.specs.declared.refusal.NumberRefusal.TheVariants as no
 use Rattle.rg_input.specs.Numbers.{Answers, Follows, Looks, OnInput, Pending}
-use Rattle.rg_plain.specs.declared.state.parts.Parts.{Parts}
+use Rattle.rg_values.specs.declared.state.parts.Parts.{Parts}
 use Rattle.rg_plain.specs.declared.steps.input.Wanted.{Wanted}
 use Rattle.rg_plain.specs.declared.steps.input.Wanted.TheVariants as wanted
-use Rattle.rg_plain.specs.Fits.{PartsFit}
-use Rattle.rg_plain.specs.Kept.{Kept, kept_of, plain_of, shown}
+use Rattle.rg_values.specs.Fits.{PartsFit}
+use Rattle.rg_values.specs.Kept.{Kept, kept_of, plain_of, shown}
 use Rattle.rg_plain.specs.Outcomes.{QuietOrPrints, Settles}
 use Rattle.rg_plain.specs.Inner.Steps.{StepIs}
 

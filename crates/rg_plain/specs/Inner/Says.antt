@@ -6,7 +6,7 @@ use Rattle.rg_tree.specs.Rows.RowTrees.{expr_at}
 use Rattle.rg_tree.specs.Rows.RowsExist.{IsExprNumber}
 use Rattle.rg_plain.specs.declared.steps.says.Says.{Says}
 use Rattle.rg_plain.specs.declared.steps.says.Says.TheVariants as says
-use Rattle.rg_plain.specs.Inner.Spots.{LeftFits, statement_of}
+use Rattle.rg_values.specs.Spots.{LeftFits, statement_of}
 
 -- whether the input is asked for
 abbrev pub asks_of : Says → Truth

@@ -3,20 +3,17 @@
 ghost use Rattle.std.specs.Prelude.{◌≡◌, ◌≤◌, Err};
 ghost use Rattle.rg_io.specs.Content.{Rose};
 ghost use Rattle.rg_input.specs.Numbers.{Follows, OnInput};
-ghost use Rattle.rg_plain.specs.Fits.{PartsFit};
+ghost use Rattle.rg_values.specs.Fits.{PartsFit};
 ghost use Rattle.rg_plain.specs.Inner.Inputs.{Gave, StepOn, refused_by, right_for};
-ghost use Rattle.rg_plain.specs.Inner.Spots.{LeftFits, statement_of};
-ghost use Rattle.rg_plain.specs.Inner.Steps.{Stands};
-ghost use Rattle.rg_plain.specs.Kept.{kept_of};
+ghost use Rattle.rg_values.specs.Spots.{LeftFits, statement_of};
+ghost use Rattle.rg_values.specs.Steps.{Stands};
+ghost use Rattle.rg_values.specs.Kept.{kept_of};
 
-use crate::state::items::advance;
-use crate::state::parts::Parts;
-use crate::steps::refusal::{Refusal, ended};
-use crate::steps::targets::{Assignment, aim_of, make_room, put};
 use rg_base::{Outcome, Trap, Val};
 use rg_input::{InputFault, NumberRefusal, Numbers};
 use rg_io::Source;
 use rg_names::Book;
+use rg_values::{Assignment, Parts, Refusal, advance, aim_of, ended, make_room, put};
 
 /// What is asked of the input.
 #[derive(Clone, Copy)]

@@ -6,11 +6,11 @@ ghost use Rattle.rg_tree.specs.Rows.RowsExist.{IsKindIn};
 ghost use Rattle.rg_tree.specs.Rows.Tables.{Tables};
 ghost use Rattle.rg_rules.specs.Outside.Inputs.{asks, kind_asks};
 ghost use Rattle.rg_plain.specs.Inner.Says.{SaysFits, SaysIs, asks_of, prints_of};
-ghost use Rattle.rg_plain.specs.Inner.Spots.{LeftFits, statement_of};
-ghost use Rattle.rg_plain.specs.Outcomes.{prints};
+ghost use Rattle.rg_values.specs.Spots.{LeftFits, statement_of};
+ghost use Rattle.rg_values.specs.Printing.{prints};
 
-use crate::steps::targets::Left;
 use rg_tree::{Right, StmtKind};
+use rg_values::Left;
 
 /// What a statement says to the outside.
 #[derive(Clone, Copy)]

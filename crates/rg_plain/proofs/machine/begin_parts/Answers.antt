@@ -2,9 +2,9 @@ use Rattle.std.proofs.Common.{◌≡◌, ◌∙◌, [], ◌∷◌, ◌++◌, Lis
 use Rattle.rg_base.specs.declared.words.Manager.{Manager}
 use Rattle.rg_tree.specs.Rows.RowTrees.{block_of}
 use Rattle.rg_rules.specs.Items.{EndAt, items_of}
-use Rattle.rg_plain.specs.Kept.{Kept, shown}
+use Rattle.rg_values.specs.Kept.{Kept, shown}
 use Rattle.rg_plain.specs.Machine.{fresh}
-use Rattle.rg_plain.proofs.Rows.Item.{shown-none}
+use Rattle.rg_values.proofs.Item.{shown-none}
 use Rattle.rg_plain.proofs.machine.begin_parts.Goals as goal
 
 pub returns-clause-begun : goal.returns-clause-begun

@@ -1,6 +1,6 @@
 use Rattle.std.proofs.Common.{◌≡◌, false, inr, rules}
-use Rattle.rg_plain.specs.Kept.{kept_of, shown}
-use Rattle.rg_plain.specs.Outcomes.{first_prints}
+use Rattle.rg_values.specs.Kept.{kept_of, shown}
+use Rattle.rg_values.specs.Printing.{first_prints}
 use Rattle.rg_plain.proofs.Statements.Input.{prints}
 use Rattle.rg_plain.proofs.Statements.Unasked.{unasked, does-unasked}
 use Rattle.rg_plain.proofs.steps.statement_step.Goals as goal

@@ -2,7 +2,7 @@ use Rattle.std.proofs.Common.{sym, ◌∙◌, arith}
 use Rattle.std.proofs.lemmas.Bool.Decides.{nat_tests}
 use Rattle.rg_input.proofs.Input.{OnInput-map, OnInput-some}
 use Rattle.rg_plain.specs.Inner.Inputs.{StepOn, SettlesOn}
-use Rattle.rg_plain.specs.Kept.{kept_of}
+use Rattle.rg_values.specs.Kept.{kept_of}
 use Rattle.rg_plain.proofs.Runs.Dispatch.{settled_on, settled-fault, leaves_rows}
 use Rattle.rg_plain.proofs.steps.whole_step.Goals as goal
 

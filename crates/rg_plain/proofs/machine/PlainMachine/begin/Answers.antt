@@ -1,7 +1,7 @@
 use Rattle.std.proofs.Common.{refl, subst}
 use Rattle.rg_names.specs.Book.{Known}
 use Rattle.rg_plain.specs.Machine.{BegunWith}
-use Rattle.rg_plain.specs.Kept.{kept_of}
+use Rattle.rg_values.specs.Kept.{kept_of}
 use Rattle.rg_plain.proofs.Rows.Machine.{begins}
 use Rattle.rg_plain.proofs.machine.PlainMachine.begin.Goals as goal
 

@@ -1,10 +1,10 @@
 use Rattle.std.proofs.Common.{ap, refl, sym, subst, ◌∙◌, Some}
 use Rattle.rg_input.proofs.Input.{OnInput-map}
 use Rattle.rg_names.specs.Book.{Known}
-use Rattle.rg_plain.specs.Fits.{PartsFit}
+use Rattle.rg_values.specs.Fits.{PartsFit}
 use Rattle.rg_plain.specs.Outcomes.{EndsMain}
 use Rattle.rg_plain.specs.Inner.Inputs.{SettlesOn}
-use Rattle.rg_plain.specs.Kept.{kept_of, shown}
+use Rattle.rg_values.specs.Kept.{kept_of, shown}
 use Rattle.rg_rules.specs.Outside.Inputs.{first_asks}
 use Rattle.rg_plain.specs.Machine.{Machine, KeepsFit, StepsOn}
 use Rattle.rg_plain.proofs.Rows.Machine.{fits_parts, fits_again, settles_as}

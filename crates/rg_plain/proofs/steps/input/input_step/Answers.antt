@@ -2,8 +2,8 @@ use Rattle.std.proofs.Common.{◌∙◌, refl, sym, ap, Ok, Err}
 use Rattle.rg_base.specs.declared.outcome.Outcome.TheVariants as outcome
 use Rattle.rg_input.proofs.Input.{OnInput-map}
 use Rattle.rg_plain.specs.Inner.Inputs.{Gave, StepOn, refused_by, right_for}
-use Rattle.rg_plain.specs.Inner.Spots.{use_of}
-use Rattle.rg_plain.specs.Kept.{Kept, kept_of, plain_of, shown}
+use Rattle.rg_values.specs.Spots.{use_of}
+use Rattle.rg_values.specs.Kept.{Kept, kept_of, plain_of, shown}
 use Rattle.rg_plain.proofs.Statements.Input.{reads_nothing, cut-step, value-step, no-value, same-plain}
 use Rattle.rg_plain.proofs.steps.input.input_step.Goals as goal
 

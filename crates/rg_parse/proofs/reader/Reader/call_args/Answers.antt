@@ -1,5 +1,0 @@
-use Rattle.rg_parse.proofs.PathRows.{no_call-halts}
-use Rattle.rg_parse.proofs.reader.Reader.call_args.Goals as goal
-
-pub returns-else-is_next-clause-fault : goal.returns-else-is_next-clause-fault
-returns-else-is_next-clause-fault c = no_call-halts _ c.requires c.if-is_next.ensures

@@ -1,0 +1,22 @@
+use Rattle.std.proofs.Common.{ap}
+use Rattle.rg_tree.specs.Phrases as p
+use Rattle.rg_tree.specs.Table.{row}
+use Rattle.rg_reader.proofs.Tokens.{exit}
+use Rattle.rg_reader.proofs.Halting.{halts-here, halts-row, halts-took, halts-used}
+use Rattle.rg_parse.proofs.StmtRows.{giving-found}
+use Rattle.rg_parse.proofs.rules.blocks.some_giving.Goals as goal
+
+pub returns-in_err-take-clause-fault : goal.returns-in_err-take-clause-fault
+returns-in_err-take-clause-fault c = exit _ c.from_residual.ensures.1 (halts-row _ _ (ap (row p.Giving) c.requires)
+    (halts-here _ c.in_err-take.ensures.fault))
+
+pub returns-in_err-name-clause-fault : goal.returns-in_err-name-clause-fault
+returns-in_err-name-clause-fault c = exit _ c.from_residual-in_err-name.ensures.1 (halts-row _ _ (ap (row p.Giving) c.requires)
+    (halts-took _ c.in_ok-take.ensures.ok (halts-here _ c.in_err-name.ensures.fault)))
+
+pub returns-in_err-take-2-clause-fault : goal.returns-in_err-take-2-clause-fault
+returns-in_err-take-2-clause-fault c = exit _ c.from_residual-in_err-take-2.ensures.1 (halts-row _ _ (ap (row p.Giving) c.requires)
+    (halts-took _ c.in_ok-take.ensures.ok (halts-used _ c.in_ok-name.ensures.ok (halts-here _ c.in_err-take-2.ensures.fault))))
+
+pub returns-clause-ok : goal.returns-clause-ok
+returns-clause-ok c = giving-found c.in_ok-take.ensures.ok c.in_ok-name.ensures.ok c.in_ok-take-2.ensures.ok

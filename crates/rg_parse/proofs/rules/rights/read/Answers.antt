@@ -1,0 +1,11 @@
+use Rattle.rg_reader.proofs.Tokens.{exit}
+use Rattle.rg_reader.proofs.Halting.{halts-here, halts-row}
+use Rattle.rg_parse.proofs.RightRows.{read-row, read-found}
+use Rattle.rg_parse.proofs.rules.rights.read.Goals as goal
+
+pub returns-in_err-take-clause-fault : goal.returns-in_err-take-clause-fault
+returns-in_err-take-clause-fault c = exit _ c.from_residual.ensures.1 (halts-row _ _ (read-row _ c.requires)
+    (halts-here _ c.in_err-take.ensures.fault))
+
+pub returns-clause-ok : goal.returns-clause-ok
+returns-clause-ok c = read-found c.in_ok-take.ensures.ok

@@ -1,0 +1,43 @@
+use Rattle.rg_tree.specs.Forms as form
+use Rattle.rg_reader.specs.declared.reader.limits.Role.TheVariants as role
+use Rattle.rg_reader.proofs.Tokens.{exit}
+use Rattle.rg_reader.proofs.Halting.{halts-declared, halts-found, halts-here, halts-row, halts-took}
+use Rattle.rg_parse.proofs.StmtRows.{let-row, let-found}
+use Rattle.rg_parse.proofs.rules.statements.let_row.Goals as goal
+
+pub returns-in_err-take-clause-fault : goal.returns-in_err-take-clause-fault
+returns-in_err-take-clause-fault c = exit _ c.from_residual.ensures.1 (halts-row _ _ (let-row _ c.requires)
+    (halts-here _ c.in_err-take.ensures.fault))
+
+pub returns-in_err-name-clause-fault : goal.returns-in_err-name-clause-fault
+returns-in_err-name-clause-fault c = exit _ c.from_residual-in_err-name.ensures.1 (halts-row _ _ (let-row _ c.requires)
+    (halts-took _ c.in_ok-take.ensures.ok (halts-here _ c.in_err-name.ensures.fault)))
+
+pub returns-in_err-take-2-clause-fault : goal.returns-in_err-take-2-clause-fault
+returns-in_err-take-2-clause-fault c = exit _ c.from_residual-in_err-take-2.ensures.1 (halts-row _ _ (let-row _ c.requires)
+    (halts-took _ c.in_ok-take.ensures.ok (halts-declared role.Local _ c.in_ok-name.ensures.ok (halts-here _ c.in_err-take-2.ensures.fault))))
+
+pub returns-in_err-ty-clause-fault : goal.returns-in_err-ty-clause-fault
+returns-in_err-ty-clause-fault c = exit _ c.from_residual-in_err-ty.ensures.1 (halts-row _ _ (let-row _ c.requires)
+    (halts-took _ c.in_ok-take.ensures.ok (halts-declared role.Local _ c.in_ok-name.ensures.ok (halts-took _ c.in_ok-take-2.ensures.ok
+    (halts-here _ c.in_err-ty.ensures.fault)))))
+
+pub returns-in_err-take-3-clause-fault : goal.returns-in_err-take-3-clause-fault
+returns-in_err-take-3-clause-fault c = exit _ c.from_residual-in_err-take-3.ensures.1 (halts-row _ _ (let-row _ c.requires)
+    (halts-took _ c.in_ok-take.ensures.ok (halts-declared role.Local _ c.in_ok-name.ensures.ok (halts-took _ c.in_ok-take-2.ensures.ok
+    (halts-found form.Type' _ tt c.in_ok-ty.ensures.ok (halts-here _ c.in_err-take-3.ensures.fault))))))
+
+pub returns-in_err-right-clause-fault : goal.returns-in_err-right-clause-fault
+returns-in_err-right-clause-fault c = exit _ c.from_residual-in_err-right.ensures.1 (halts-row _ _ (let-row _ c.requires)
+    (halts-took _ c.in_ok-take.ensures.ok (halts-declared role.Local _ c.in_ok-name.ensures.ok (halts-took _ c.in_ok-take-2.ensures.ok
+    (halts-found form.Type' _ tt c.in_ok-ty.ensures.ok (halts-took _ c.in_ok-take-3.ensures.ok (halts-here _ c.in_err-right.ensures.fault)))))))
+
+pub returns-in_err-take-4-clause-fault : goal.returns-in_err-take-4-clause-fault
+returns-in_err-take-4-clause-fault c = exit _ c.from_residual-in_err-take-4.ensures.1 (halts-row _ _ (let-row _ c.requires)
+    (halts-took _ c.in_ok-take.ensures.ok (halts-declared role.Local _ c.in_ok-name.ensures.ok (halts-took _ c.in_ok-take-2.ensures.ok
+    (halts-found form.Type' _ tt c.in_ok-ty.ensures.ok (halts-took _ c.in_ok-take-3.ensures.ok
+    (halts-found form.Right _ tt c.in_ok-right.ensures.ok (halts-here _ c.in_err-take-4.ensures.fault))))))))
+
+pub returns-clause-ok : goal.returns-clause-ok
+returns-clause-ok c = let-found c.in_ok-take.ensures.ok c.in_ok-name.ensures.ok c.in_ok-take-2.ensures.ok c.in_ok-ty.ensures.ok
+    c.in_ok-take-3.ensures.ok c.in_ok-right.ensures.ok c.in_ok-take-4.ensures.ok

@@ -1,0 +1,20 @@
+use Rattle.rg_tree.specs.Forms as form
+use Rattle.rg_reader.proofs.Tokens.{exit}
+use Rattle.rg_reader.proofs.Halting.{halts-found, halts-here, halts-row, halts-took}
+use Rattle.rg_parse.proofs.StmtRows.{print-row, print-found}
+use Rattle.rg_parse.proofs.rules.statements.print_row.Goals as goal
+
+pub returns-in_err-take-clause-fault : goal.returns-in_err-take-clause-fault
+returns-in_err-take-clause-fault c = exit _ c.from_residual.ensures.1 (halts-row _ _ (print-row _ c.requires)
+    (halts-here _ c.in_err-take.ensures.fault))
+
+pub returns-in_err-expr-clause-fault : goal.returns-in_err-expr-clause-fault
+returns-in_err-expr-clause-fault c = exit _ c.from_residual-in_err-expr.ensures.1 (halts-row _ _ (print-row _ c.requires)
+    (halts-took _ c.in_ok-take.ensures.ok (halts-here _ c.in_err-expr.ensures.fault)))
+
+pub returns-in_err-take-2-clause-fault : goal.returns-in_err-take-2-clause-fault
+returns-in_err-take-2-clause-fault c = exit _ c.from_residual-in_err-take-2.ensures.1 (halts-row _ _ (print-row _ c.requires)
+    (halts-took _ c.in_ok-take.ensures.ok (halts-found form.Expr _ tt c.in_ok-expr.ensures.ok (halts-here _ c.in_err-take-2.ensures.fault))))
+
+pub returns-clause-ok : goal.returns-clause-ok
+returns-clause-ok c = print-found c.in_ok-take.ensures.ok c.in_ok-expr.ensures.ok c.in_ok-take-2.ensures.ok

@@ -1,4 +1,0 @@
-use Rattle.rg_plain.proofs.values.expressions.+value.Given as goal
-
-abbrev pub decreases-value : goal.decreases-value
-decreases-value l = l.e

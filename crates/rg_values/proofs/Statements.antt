@@ -1,0 +1,3 @@
+-- Where a value goes, and parameters.
+pub mod Element
+pub mod Bind
