@@ -7,8 +7,8 @@ use Rattle.rg_cells.specs.declared.cell.Body.{Body}
 use Rattle.rg_cells.specs.declared.cell.Cell.{Cell}
 use Rattle.rg_cells.specs.declared.cell.Beside.{Beside}
 use Rattle.rg_cells.specs.Table.{Table, body_at, field_at, IsHeld, width, with_field}
-use Rattle.rg_cells.specs.Replacing.{ReplacesPlain}
-use Rattle.rg_cells.specs.Inner.Layout.{few_of, is_free, index_in, ReplacesIn}
+use Rattle.rg_cells.specs.Replacing.{ReplacesIn, ReplacesPlain}
+use Rattle.rg_cells.specs.Inner.Layout.{few_of, is_free, index_in}
 use Rattle.rg_cells.specs.Inner.Places.{index_of, fields_of, body_of, mark_of, link_of, table_of, told, FreeList, Owned, Puts}
 use Rattle.rg_cells.proofs.Lists.{got, set-as_was}
 use Rattle.rg_cells.proofs.Shown.{held_read, body-held, fielded}

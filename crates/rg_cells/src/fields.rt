@@ -1,7 +1,7 @@
 //! The fields of a cell that has many (docs/architecture.md, "Cells").
 
 ghost use Rattle.std.specs.Prelude.{◌≡◌, ◌<◌, ◌^◌, length, slice_get, slice_set, Some, IfOk};
-ghost use Rattle.rg_cells.specs.Inner.Layout.{ReplacesIn};
+ghost use Rattle.rg_cells.specs.Replacing.{ReplacesIn};
 
 use rg_base::{Memory, Word};
 use std::alloc::Global;

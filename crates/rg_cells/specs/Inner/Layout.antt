@@ -1,5 +1,5 @@
 -- The layout of a place: kinds and numbers in place of words, and fields beside (docs/architecture.md, "Cells").
-use Rattle.std.specs.Prelude.{◌≡◌, ◌≢◌, slice_get, slice_set, ℕ, ◌==◌, not, Bool, true, false, if◌then◌else◌, List, [], ◌∷◌, Option, Some, None, slice_index_or}
+use Rattle.std.specs.Prelude.{ℕ, ◌==◌, not, Bool, true, false, if◌then◌else◌, List, [], ◌∷◌, Option, Some, None, slice_index_or}
 use Rattle.std.specs.Int.{cast_signed, w64}
 use Rattle.rg_base.specs.declared.value.Word.{Word}
 use Rattle.rg_base.specs.declared.value.Word.TheVariants as word
@@ -92,11 +92,6 @@ is_beside kind.Beside = true
 -- how many fields stand in a cell with fields of these kinds
 abbrev pub many_of : (a b c : Kind) → ℕ
 many_of a b c = if is_there a then (if is_there b then (if is_there c then 3 else 2) else 1) else 0
-
--- a word that led nowhere was replaced by another one, or nothing was changed
-abbrev pub ReplacesIn : Bool → (old new : List Word) → ℕ → Word → Type 0
-ReplacesIn true old new k w = (v : Word) × (slice_get old k ≡ Some v) × ((s : ℕ) → v ≢ word.Slot s) × (new ≡ slice_set old k w)
-ReplacesIn false old new k w = new ≡ old
 
 -- which list beside the cells has the fields, where they don't stand in the cell itself
 abbrev pub index_in : List Kind → List ℕ → Option ℕ
