@@ -160,7 +160,7 @@ module _ (t : Tables) (code : Code) (k : ℕ) (old new : Standing) (taken out : 
     (so_far : Tells (program_of t) before k old.stepper.events) (steps : old.stepper.steps ≡ k) (room : k < 2 ^ 64 - 1) where
   adds : (r : Outcome) {end : List ℕ} → OneStep code old new r between end → Adds new.stepper.steps old.stepper.events new.stepper.events r
   adds r one =
-      (step-adds (due_at code.ops old.stepper.parts.at) old.stepper one.serves.mid new.stepper old.pacers new.pacers r one.serves.does).0
+      step-adds (due_at code.ops old.stepper.parts.at) old.stepper one.serves.mid new.stepper old.pacers new.pacers r one.serves.does
 
   tells-more : (r : Outcome) (end : List ℕ) → is_made r ≡ true → (one : OneStep code old new r between end) → (q : State) →
       next (program_of t).classes b.state ≡ Went q → OneMore new.stepper.steps old.stepper.events new.stepper.events →

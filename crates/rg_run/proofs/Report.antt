@@ -24,7 +24,6 @@ use Rattle.rg_step.specs.Stepping.{Stepping}
 use Rattle.rg_step.specs.Collections.{IsCollected, IsLeft, CollectsOn, CollectsAsked, Paces, Serves, ServesBy, event_of}
 use Rattle.rg_step.specs.Pacers.{Asks}
 use Rattle.rg_run.specs.Inner.{CutsLine, Gives, IsUntold, OneMore, Adds, behind}
-use Rattle.rg_run.specs.Asked.{SameTuned}
 use Rattle.rg_run.specs.Reports.{Reports, event_lines}
 
 -- What a step adds
@@ -47,33 +46,27 @@ asked-more Arena mid events new h = left-more mid events new h
 asked-more Count mid events new h = collected-more cause.Asked mid events new h
 asked-more Trace mid events new h = collected-more cause.Asked mid events new h
 
-same-tuned : (before after : Asks) → after ≡ before → SameTuned before after
-same-tuned before after same = (ap (λ (a : Asks). a.count.tuned) same, ap (λ (a : Asks). a.trace.tuned) same)
-
 paced-more : (m : Manager) (held : ℕ) (old : Stepping) (mid : Parts) (new : Stepping) (before after : Asks) → Paces m held old mid new before after →
-    OneMore new.steps old.events new.events × SameTuned before after
-paced-more Arena held old mid new before after h = (left-more mid old.events new h.0, same-tuned before after h.1.pacers)
-paced-more Count held old mid new before after h =
-    (on-more h.0 mid old.events new h.1, (ap (λ (a : Asks). a.count.tuned) h.3, ap (λ (a : Asks). a.trace.tuned) h.3))
-paced-more Trace held old mid new before after h =
-    (on-more h.0 mid old.events new h.1, (ap (λ (a : Asks). a.count.tuned) h.3, ap (λ (a : Asks). a.trace.tuned) h.3))
+    OneMore new.steps old.events new.events
+paced-more Arena held old mid new before after h = left-more mid old.events new h.0
+paced-more Count held old mid new before after h = on-more h.0 mid old.events new h.1
+paced-more Trace held old mid new before after h = on-more h.0 mid old.events new h.1
 
 serves-more : (due : Option Cause) (old : Stepping) (mid : Parts) (new : Stepping) (before after : Asks) → Serves due old mid new before after →
-    OneMore new.steps old.events new.events × SameTuned before after
-serves-more None old mid new before after h = (left-more mid old.events new h.0, same-tuned before after h.1.pacers)
-serves-more (Some cause.Asked) old mid new before after h =
-    (asked-more h.0.0.manager mid old.events new h.0.2, same-tuned before after h.1.pacers)
+    OneMore new.steps old.events new.events
+serves-more None old mid new before after h = left-more mid old.events new h.0
+serves-more (Some cause.Asked) old mid new before after h = asked-more h.0.0.manager mid old.events new h.0.2
 serves-more (Some cause.Paced) old mid new before after h = paced-more h.0.manager h.0.held old mid new before after h.2
 
--- a step has at most one collection, and tunes no pacer
+-- a step has at most one collection
 pub step-adds : (due : Option Cause) (old : Stepping) (mid : Parts) (new : Stepping) (before after : Asks) (r : Outcome) →
-    ServesBy due old mid new before after r → Adds new.steps old.events new.events r × SameTuned before after
+    ServesBy due old mid new before after r → Adds new.steps old.events new.events r
 step-adds due old mid new before after outcome.Running h = serves-more due old mid new before after h
 step-adds due old mid new before after (outcome.Printed v) h = serves-more due old mid new before after h
 step-adds due old mid new before after outcome.Done h = serves-more due old mid new before after h
-step-adds due old mid new before after (outcome.Trap kind line) h = (h.events_are, same-tuned before after h.unasked.pacers)
-step-adds due old mid new before after outcome.InputFault h = (h.events_are, same-tuned before after h.unasked.pacers)
-step-adds due old mid new before after outcome.Memory h = (h.events_are, same-tuned before after h.unasked.pacers)
+step-adds due old mid new before after (outcome.Trap kind line) h = h.events_are
+step-adds due old mid new before after outcome.InputFault h = h.events_are
+step-adds due old mid new before after outcome.Memory h = h.events_are
 
 front : {step : ℕ} (old new : List Event) → OneMore step old new → take (length old) new ≡ old
 front old new (inl same) = ap (take (length old)) same ∙ take_all (length old) old (omega arith)

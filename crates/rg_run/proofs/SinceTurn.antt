@@ -50,7 +50,7 @@ module _ (t : Tables) (code : Code) (k : ℕ) (old new : Standing) (taken out : 
     (room : k < 2 ^ 64 - 1) where
   adds : (r : Outcome) {end : List ℕ} → OneStep code old new r between end → Adds new.stepper.steps old.stepper.events new.stepper.events r
   adds r one =
-      (step-adds (due_at code.ops old.stepper.parts.at) old.stepper one.serves.mid new.stepper old.pacers new.pacers r one.serves.does).0
+      step-adds (due_at code.ops old.stepper.parts.at) old.stepper one.serves.mid new.stepper old.pacers new.pacers r one.serves.does
 
   since-more : (q : State) → next (program_of t).classes b.state ≡ Went q → (told : List Event) → new.stepper.events ≡ old.stepper.events ++ told →
       OneMore new.stepper.steps old.stepper.events new.stepper.events →

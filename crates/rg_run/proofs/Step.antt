@@ -9,7 +9,6 @@ use Rattle.rg_code.specs.Dues.{due_at}
 use Rattle.rg_step.specs.Asking.{YesesTold}
 use Rattle.rg_step.specs.States.{OneStep, Standing}
 use Rattle.rg_run.specs.Inner.{Adds}
-use Rattle.rg_run.specs.Asked.{SameTuned}
 use Rattle.rg_run.proofs.Report.{step-adds}
 
 module _ {code : Code} {old new : Standing} {result : Outcome} {a b : Pending} {la lb : Option (List ℕ)} (follows : Follows b lb)
@@ -17,7 +16,7 @@ module _ {code : Code} {old new : Standing} {result : Outcome} {a b : Pending} {
   some : (before : List ℕ) × (after : List ℕ) × OneStep code old new result before after
   some = OnInput-some a b la lb (OneStep code old new result) follows step
 
-  pub added : Adds new.stepper.steps old.stepper.events new.stepper.events result × SameTuned old.pacers new.pacers
+  pub added : Adds new.stepper.steps old.stepper.events new.stepper.events result
   added =
       step-adds (due_at code.ops old.stepper.parts.at) old.stepper some.2.serves.mid new.stepper old.pacers new.pacers result some.2.serves.does
 

@@ -14,10 +14,6 @@ pub record AskedOver (t : Tree) (input : List ℕ) (steps : ℕ) (before after :
   pub count : after.count.asks ≡ raised (length (asks t input steps Count)) before.count.asks
   pub trace : after.trace.asks ≡ raised (length (asks t input steps Trace)) before.trace.asks
 
--- neither pacer was tuned
-abbrev pub SameTuned : (before after : Asks) → Type 0
-SameTuned before after = (after.count.tuned ≡ before.count.tuned) × (after.trace.tuned ≡ before.trace.tuned)
-
 -- the step of the last of these collections that the pacer of a manager said yes to, and this number where there is none
 abbrev pub last_behind : Manager → (found : ℕ) → List Event → ℕ
 last_behind m found [] = found

@@ -8,12 +8,11 @@ use Rattle.rg_base.specs.declared.outcome.Ended.TheVariants as ended
 use Rattle.rg_base.specs.Text.{line_text}
 use Rattle.rg_io.specs.Content.{Appends, AppendsPart}
 use Rattle.rg_step.specs.Asking.{YesesTold}
-use Rattle.rg_step.specs.Pacers.{Asks}
+use Rattle.rg_step.specs.Pacers.{Asks, SameTuned}
 use Rattle.rg_step.specs.Stepping.{IsFresh as IsAtStart}
 use Rattle.rg_run.specs.declared.inside.Inside.{Inside}
 use Rattle.rg_run.specs.declared.task.Sinks.{Sinks}
 use Rattle.rg_run.specs.declared.task.Task.{Task}
-use Rattle.rg_run.specs.Asked.{SameTuned}
 use Rattle.rg_run.specs.Machine.{Kept}
 use Rattle.rg_run.specs.Reports.{Reports}
 use Rattle.rg_run.specs.Runs.{Caused}

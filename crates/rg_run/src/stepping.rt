@@ -5,11 +5,10 @@ ghost use Rattle.rg_io.specs.Content.{Rose};
 ghost use Rattle.rg_input.specs.Numbers.{Follows, OnInput};
 ghost use Rattle.rg_machine.specs.Parts.{machine_in};
 ghost use Rattle.rg_step.specs.Asking.{YesesTold};
-ghost use Rattle.rg_step.specs.Pacers.{both};
+ghost use Rattle.rg_step.specs.Pacers.{SameTuned, both};
 ghost use Rattle.rg_step.specs.States.{OneStep, standing};
 ghost use Rattle.rg_step.specs.Steps.{AsksFirst, IsRunning, UnlessAsking};
 ghost use Rattle.rg_run.specs.Inner.{Adds};
-ghost use Rattle.rg_run.specs.Asked.{SameTuned};
 
 use rg_base::{Event, Outcome};
 use rg_code::CodeList;

@@ -4,3 +4,4 @@ pub mod Chain
 pub mod Reached
 pub mod Serve
 pub mod Told
+pub mod Tuned

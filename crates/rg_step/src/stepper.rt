@@ -12,7 +12,7 @@ ghost use Rattle.rg_held.specs.Shown.{Finds, ShowsHeld};
 ghost use Rattle.rg_machine.specs.Active.{IsActive};
 ghost use Rattle.rg_machine.specs.Owned.{IsOwned};
 ghost use Rattle.rg_machine.specs.Parts.{Parts, machine_in};
-ghost use Rattle.rg_step.specs.Pacers.{Asks};
+ghost use Rattle.rg_step.specs.Pacers.{Asks, SameTuned, both};
 ghost use Rattle.rg_step.specs.States.{Chain, OneStep, Opens, standing};
 ghost use Rattle.rg_step.specs.Steps.{AsksFirst, IsRunning, Leapt, UnlessAsking};
 ghost use Rattle.rg_step.specs.Stepping.{IsFresh};
@@ -241,6 +241,8 @@ impl Stepper {
         ensures step { OnInput input.old input.new (S.left source.old) (S.left source.new)
             (OneStep code.now (standing self.old (tally count.old) (tally trace.old))
             (standing self.new (tally count.new) (tally trace.new)) result) }
+        ensures tuned { SameTuned (both (tally count.old) (tally trace.old))
+            (both (tally count.new) (tally trace.new)) }
         ensures reads_nothing { UnlessAsking code.now (machine_in self.old.parts)
             ((input.new ≡ input.old) × (source.new ≡ source.old)) }
         ensures input_fault { result ≡ Outcome.InputFault →

@@ -3,10 +3,7 @@ use Rattle.rg_run.proofs.Step.{added, slides, yeses}
 use Rattle.rg_run.proofs.stepping.step.Goals as goal
 
 pub returns-clause-events : goal.returns-clause-events
-returns-clause-events g c = (added c.step.ensures.follows c.step.ensures.step).0
-
-pub returns-clause-tuned : goal.returns-clause-tuned
-returns-clause-tuned g c = (added c.step.ensures.follows c.step.ensures.step).1
+returns-clause-events g c = added c.step.ensures.follows c.step.ensures.step
 
 pub returns-clause-slides : goal.returns-clause-slides
 returns-clause-slides g c = slides c.step.ensures.follows c.step.ensures.step

@@ -3,8 +3,7 @@ use Rattle.std.proofs.Common.{◌≡◌, ◌-◌, ◌≤◌, true}
 use Rattle.rg_base.specs.declared.outcome.Ended.TheVariants as ended
 use Rattle.rg_input.specs.Numbers.{Follows, OnInput}
 use Rattle.rg_step.specs.Asking.{YesesTold}
-use Rattle.rg_step.specs.Pacers.{both}
-use Rattle.rg_run.specs.Asked.{SameTuned}
+use Rattle.rg_step.specs.Pacers.{SameTuned, both}
 use Rattle.rg_run.specs.Inner.{IsLent}
 use Rattle.rg_run.specs.Reports.{Reports}
 use Rattle.rg_run.proofs.Turn.{Turns}

@@ -11,6 +11,7 @@ use Rattle.rg_step.proofs.Held.{rests-some, shows-none, shows-some}
 use Rattle.rg_step.proofs.One.{one-made, one-refused}
 use Rattle.rg_step.proofs.Walking.Run.{never-fresh}
 use Rattle.rg_step.proofs.Callers.Serve.{once-behind}
+use Rattle.rg_step.proofs.Callers.Tuned.{serves-tunes}
 use Rattle.rg_step.proofs.stepper.Stepper.step.Goals as goal
 
 pub unreachable-requires : goal.unreachable-requires
@@ -110,6 +111,9 @@ returns-clause-step g c =
       windows = c.is_sound-3.ensures.windows;
     })
     c.follow.ensures.high result c.outcome-outcome.ensures.did c.follow.ensures.slides made c.follow.ensures.steps))
+
+pub returns-clause-tuned : goal.returns-clause-tuned
+returns-clause-tuned g c = serves-tunes c.due_at-due.result _ _ _ _ _ (c.follow.ensures.serves c.in-Some.p)
 
 pub returns-clause-reads_nothing : goal.returns-clause-reads_nothing
 returns-clause-reads_nothing g c =
