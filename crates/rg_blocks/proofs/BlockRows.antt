@@ -1,5 +1,6 @@
 -- Statements with blocks, as rows.
-use Rattle.std.proofs.Common.{◌≡◌, ◌==◌, ℕ, suc, ◌+◌, Bool as Truth, false, List, [], ◌∷◌, ◌++◌, length, Option, Some, None, option_map, Result, Ok, Err}
+use Rattle.std.proofs.Common.{◌≡◌, ◌==◌, ℕ, suc, ◌+◌, Bool as Truth, false, List, [], ◌∷◌, ◌++◌, length, Option, Some, None, option_map, Result, Ok}
+use Rattle.std.proofs.Common.{Err}
 use Rattle.std.proofs.Common.{refl, sym, ap, ◌∙◌, subst, arith}
 use Rattle.std.proofs.lemmas.List.{length-append}
 use Rattle.rg_base.specs.declared.words.Cap.TheVariants as cap
@@ -73,7 +74,8 @@ module _ (m : Truth) (g : Given) (inner : Inner) (types : List Ty) (line : ℕ) 
       (branch-two m (length types) t test e is first b block u second c grown other)
 
   module _ (start : ℕ) (t u : Tables) (test : ℕ) (e : Raised) (yes : Span) (fails at mid end : ℕ) (is : IsTree t test (named m e))
-      (made : MakesAs (IsBlockSaid m (length types)) t u (inner types at) (Ok (yes, mid))) (ends : ended end_of g.ops line (length types) mid ≡ Some end) where
+      (made : MakesAs (IsBlockSaid m (length types)) t u (inner types at) (Ok (yes, mid)))
+      (ends : ended end_of g.ops line (length types) mid ≡ Some end) where
     pub tested-made : fails ≡ end
         → MakesAs (IsKindSaid m (length types)) t u (tested g inner types line start e fails at)
         (Ok (record { row = kind_row.If test yes None; after = after.Same }, end))
@@ -171,7 +173,8 @@ module _ (m : Truth) (g : Given) (inner : Inner) (types : List Ty) (line : ℕ) 
           let (later, means, same) = enters (path_named m q.0 (q.1 ++ k ∷ [])) x path.means there in
           makes-so (IsKindSaid m (length types)) t y (expr_by g inner types line start e at (Some (walk.Enter k z))) said
           (enter_field q.0 q.1 k x.0 x.1 x.2) end end
-          (bind-is (path_in e) _ q found ∙ bind-is (window g inner types line z (suc at)) _ (x, end) (ap (window g inner types line z) one ∙ told)) refl
+          (bind-is (path_in e) _ q found
+          ∙ bind-is (window g inner types line z (suc at)) _ (x, end) (ap (window g inner types line z) one ∙ told)) refl
           (extends-trans grown (extends-trans path.extends later))
           (subst (λ (n : ℕ). Means kind_of IsKindRow y said.row (window_named m n (path_named m q.0 (q.1 ++ k ∷ [])) x)) next means, same)
 

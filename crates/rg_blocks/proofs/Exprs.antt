@@ -26,7 +26,8 @@ use Rattle.rg_raise.specs.declared.said.After.TheVariants as after
 use Rattle.rg_raise.specs.Fronts.{AreFrontsAt, MakesFronts}
 use Rattle.rg_raise.specs.Telling.{array_of, MakesAs, MakesOne, IsRightSaid, IsKindSaid}
 use Rattle.rg_blocks.specs.Blocks.{array_told, IsBlockSaid}
-use Rattle.rg_raise.proofs.Telling.{bind-is, bind-none, makes-none, makes-no-memory, makes-some, makes-so, makes-behind, refused, one-some, one-refused}
+use Rattle.rg_raise.proofs.Telling.{bind-is, bind-none, makes-none, makes-no-memory, makes-some, makes-so, makes-behind, refused, one-some}
+use Rattle.rg_raise.proofs.Telling.{one-refused}
 use Rattle.rg_blocks.proofs.BlockParts.{jumped-back, jumped-over, kind-unread, kind-as}
 use Rattle.rg_blocks.proofs.BlockRows.{print-said, return-said, while-said}
 

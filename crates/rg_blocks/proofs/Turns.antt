@@ -65,7 +65,8 @@ module _ (g : Given) (depth : ℕ) (types : List Ty) (line at : ℕ) (begins : s
       let body = kind_ops types at line k in
       let some = marked types at line k in
       let all : length g.ops - at ≡ length body + (length g.ops - end) =
-      sym (length-drop at g.ops) ∙ ap length p.parts ∙ length-append body (drop end g.ops) ∙ ap (λ (n : ℕ). length body + n) (length-drop end g.ops) in
+      sym (length-drop at g.ops) ∙ ap length p.parts ∙ length-append body (drop end g.ops)
+      ∙ ap (λ (n : ℕ). length body + n) (length-drop end g.ops) in
       (omega (arith, some, p.place), omega (arith, some, p.place, all, begins-within))
 
 -- the statements of a block that has ended

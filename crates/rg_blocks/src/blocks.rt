@@ -1,6 +1,7 @@
 //! Blocks, raised from their code (docs/architecture.md, "Modules").
 
-ghost use Rattle.std.specs.Prelude.{◌≡◌, ℕ, suc, ◌+◌, ◌<◌, ◌^◌, List, [], ◌∷◌, ◌++◌, length, IfOk, Some, None};
+ghost use Rattle.std.specs.Prelude.{◌≡◌, ℕ, suc, ◌+◌, ◌<◌, ◌^◌, List, [], ◌∷◌, ◌++◌, length, IfOk};
+ghost use Rattle.std.specs.Prelude.{Some, None};
 ghost use Rattle.rg_base.specs.declared.ty.Ty.{Ty as Types};
 ghost use Rattle.rg_tree.specs.Adds.{Extends};
 ghost use Rattle.rg_verify.specs.Raised.{Raised, named, Front as OneFront, expression};
@@ -45,7 +46,8 @@ fn otherwise_told(
         IsTree program.old test (named source.now.body.in_method e) →
         IsBlockSaid source.now.body.in_method (length types.old.items) program.old yes b →
         let g = given source.now in
-        MakesAs (IsKindSaid source.now.body.in_method (length types.old.items)) program.old program.new
+        MakesAs (IsKindSaid source.now.body.in_method (length types.old.items)) program.old
+        program.new
         (blocks.otherwise_told g (block_told g depth) types.old.items line e b to at) result }
     ensures grows { Extends program.old program.new }
     ensures types { IfOk result (λ x. types.new.items ≡ types.old.items) }
@@ -85,7 +87,8 @@ fn jumped(
         IsTree program.old test (named source.now.body.in_method e) →
         IsBlockSaid source.now.body.in_method (length types.old.items) program.old yes b →
         let g = given source.now in
-        MakesAs (IsKindSaid source.now.body.in_method (length types.old.items)) program.old program.new
+        MakesAs (IsKindSaid source.now.body.in_method (length types.old.items)) program.old
+        program.new
         (blocks.jumped g (block_told g depth) types.old.items line start e b fails at) result }
     ensures grows { Extends program.old program.new }
     ensures types { IfOk result (λ x. types.new.items ≡ types.old.items) }
@@ -120,7 +123,8 @@ fn tested(
 ) -> Result<(KindSaid, usize), Refusal>
     ensures told { (e : Raised) → IsTree program.old test (named source.now.body.in_method e) →
         let g = given source.now in
-        MakesAs (IsKindSaid source.now.body.in_method (length types.old.items)) program.old program.new
+        MakesAs (IsKindSaid source.now.body.in_method (length types.old.items)) program.old
+        program.new
         (blocks.tested g (block_told g depth) types.old.items line start e fails at) result }
     ensures grows { Extends program.old program.new }
     ensures types { IfOk result (λ x. types.new.items ≡ types.old.items) }
@@ -158,7 +162,8 @@ fn close_by(
 ) -> Result<(KindSaid, usize), Refusal>
     ensures told { (e : Raised) → IsTree program.old test (named source.now.body.in_method e) →
         let g = given source.now in
-        MakesAs (IsKindSaid source.now.body.in_method (length types.old.items)) program.old program.new
+        MakesAs (IsKindSaid source.now.body.in_method (length types.old.items)) program.old
+        program.new
         (blocks.close_by g (block_told g depth) types.old.items line start e at
         (sign close_of g.ops at)) result }
     ensures grows { Extends program.old program.new }
@@ -198,7 +203,8 @@ fn window(
     at: usize,
 ) -> Result<(WindowSaid, usize), Refusal>
     ensures told { let g = given source.now in
-        MakesAs (IsWindowSaid source.now.body.in_method (length types.old.items)) program.old program.new
+        MakesAs (IsWindowSaid source.now.body.in_method (length types.old.items)) program.old
+        program.new
         (blocks.window g (block_told g depth) types.old.items line bridge at) result }
     ensures grows { Extends program.old program.new }
     ensures types { IfOk result (λ x. types.new.items ≡ types.old.items) }
@@ -244,7 +250,8 @@ fn field_entered(
     requires next { at + 1 < 2 ^ 64 }
     ensures told { (e : Raised) → IsTree program.old test (named source.now.body.in_method e) →
         let g = given source.now in
-        MakesAs (IsKindSaid source.now.body.in_method (length types.old.items)) program.old program.new
+        MakesAs (IsKindSaid source.now.body.in_method (length types.old.items)) program.old
+        program.new
         (blocks.expr_by g (block_told g depth) types.old.items line start e at
         (Some (walk.Enter index bridge))) result }
     ensures grows { Extends program.old program.new }
@@ -434,11 +441,14 @@ fn kind_by(
     fronts: Fronts,
 ) -> Result<(KindSaid, usize), Refusal>
     requires { (fs : List OneFront) ×
-        TakesFirst program.old source.now.body.in_method source.now.parts.now.code.ops fronts fs first }
+        TakesFirst program.old source.now.body.in_method source.now.parts.now.code.ops fronts fs
+        first }
     ensures told { (fs : List OneFront) →
-        TakesFirst program.old source.now.body.in_method source.now.parts.now.code.ops fronts fs first →
+        TakesFirst program.old source.now.body.in_method source.now.parts.now.code.ops fronts fs
+        first →
         let g = given source.now in
-        MakesAs (IsKindSaid source.now.body.in_method (length types.old.items)) program.old program.new
+        MakesAs (IsKindSaid source.now.body.in_method (length types.old.items)) program.old
+        program.new
         (blocks.kind_by g (block_told g depth) types.old.items line start fs fronts.code.end)
         result }
     ensures grows { Extends program.old program.new }
@@ -474,7 +484,8 @@ fn kind_told(
 ) -> Result<(KindSaid, usize), Refusal>
     requires next { at + 1 < 2 ^ 64 }
     ensures told { let g = given source.now in
-        MakesAs (IsKindSaid source.now.body.in_method (length types.old.items)) program.old program.new
+        MakesAs (IsKindSaid source.now.body.in_method (length types.old.items)) program.old
+        program.new
         (blocks.kind_told g (block_told g depth) types.old.items line at) result }
     ensures grows { Extends program.old program.new }
     ensures types { IfOk result (λ x. types.new.items ≡ types.old.items) }

@@ -202,7 +202,8 @@ block-last types at (next line k (next l j b)) (last, t) =
     by true e behind = let none : next l j b ≡ empty = last e in absurd cc
     by false e behind =
         let (os, begins) = kind-begins (types_behind types k) (at + length own) l j in
-        let tail = block_ops (types_behind (types_behind types k) j) (at + length own + length (kind_ops (types_behind types k) (at + length own) l j)) b in
+        let tail =
+        block_ops (types_behind (types_behind types k) j) (at + length own + length (kind_ops (types_behind types k) (at + length own) l j)) b in
         let there : rest ≡ i.Mark l ∷ (os ++ tail) = ap (λ (xs : List Op). xs ++ tail) begins in
         let some : last_returns (own ++ rest) ≡ last_returns rest =
         subst (λ (xs : List Op). last_returns (own ++ xs) ≡ last_returns xs) (sym there) (something-behind own (i.Mark l) (os ++ tail)) in

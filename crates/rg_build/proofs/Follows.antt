@@ -16,7 +16,8 @@ use Rattle.rg_rules.specs.Types.{type_of, param_types}
 use Rattle.rg_rules.specs.Environment.{Env, empty}
 use Rattle.rg_rules.specs.Answers.{test, at_line}
 use Rattle.rg_rules.specs.Statements.{judge_kind, judge_else, judge_block, judge_test, judge_enter, last_of}
-use Rattle.rg_rules.specs.Bodies.{method_env, main_body, method_body, judge_body, is_return, last_is_return, gives_result, judge_method, judge_members}
+use Rattle.rg_rules.specs.Bodies.{method_env, main_body, method_body, judge_body, is_return, last_is_return, gives_result, judge_method}
+use Rattle.rg_rules.specs.Bodies.{judge_members}
 use Rattle.rg_rules.specs.Bodies.{judge_methods}
 use Rattle.rg_rules.specs.Acceptance.{Accepted}
 use Rattle.rg_rules.proofs.Answers.{bind-ok, then-ok, test-ok, at_line-ok}
@@ -75,11 +76,17 @@ mutual
   -- a statement that may give no result, and has no fault
   pub kind-goes : (cs : List Class) (sc : Scope) (at line : ℕ) (env out : Env) (k : StmtKind) → judge_kind cs None line env k ≡ Ok out →
       GoesOn (kind_code cs sc at line k)
-  kind-goes cs sc at line env out (declare x t r) h = (refl, going (right_code cs sc (at + 1) r ++ i.Store (length sc) ∷ pace_code r) (behind_right cs sc (at + 1) r (i.Store (length sc)) refl))
-  kind-goes cs sc at line env out (assign p r) h = (refl, going (assign_code cs sc (at + 1) p.base p.fields r) (assign-quiet cs sc (at + 1) p.base p.fields r))
-  kind-goes cs sc at line env out (assign_element q e r) h = (refl, going (assign_element_code cs sc (at + 1) q e r) (assign_element-quiet cs sc (at + 1) q e r))
-  kind-goes cs sc at line env out (call c) h =
-      (refl, goes-then (call_code cs sc (at + 1) c) (dropped_code (call_result cs sc c)) (call-goes cs sc (at + 1) c) (dropped-goes (call_result cs sc c)))
+  kind-goes cs sc at line env out (declare x t r) h =
+      (refl, going (right_code cs sc (at + 1) r ++ i.Store (length sc) ∷ pace_code r) (behind_right cs sc (at + 1) r (i.Store (length sc)) refl))
+  kind-goes cs sc at line env out (assign p r) h =
+      (refl, going (assign_code cs sc (at + 1) p.base p.fields r) (assign-quiet cs sc (at + 1) p.base p.fields r))
+  kind-goes cs sc at line env out (assign_element q e r) h =
+      (refl, going (assign_element_code cs sc (at + 1) q e r) (assign_element-quiet cs sc (at + 1) q e r))
+  kind-goes cs sc at line env out (call c) h = (
+    refl,
+    goes-then (call_code cs sc (at + 1) c) (dropped_code (call_result cs sc c)) (call-goes cs sc (at + 1) c)
+        (dropped-goes (call_result cs sc c)),
+  )
   kind-goes cs sc at line env out (swap y p) h = (refl, going (swap_code cs sc y p.base p.fields) (swap-quiet cs sc y p.base p.fields))
   kind-goes cs sc at line env out (branch e b other) h =
       let p = bind-ok (at_line line (judge_test cs env e)) _ out h in
@@ -89,7 +96,8 @@ mutual
       let block = block_code cs sc inside b in (
         refl,
         goes-then (whole_code cs sc (at + 1) e)
-            (i.JumpFalse (inside + length block + else_gap other) ∷ (block ++ i.Mark line ∷ i.End (length sc) ∷ else_code cs sc (inside + length block + 2) line other))
+            (i.JumpFalse (inside + length block + else_gap other) ∷
+            (block ++ i.Mark line ∷ i.End (length sc) ∷ else_code cs sc (inside + length block + 2) line other))
             (whole-goes cs sc (at + 1) e) (
               refl,
               goes-then block (i.Mark line ∷ i.End (length sc) ∷ else_code cs sc (inside + length block + 2) line other)
@@ -124,7 +132,8 @@ mutual
             (block-goes cs inside (at + 1 + length front) f.0 q.0 b q.1)
             (refl, (leave-goes (scope_at_end cs inside b) (length sc) giving, tt))),
       )
-  kind-goes cs sc at line env out (print e) h = (refl, goes-then (whole_code cs sc (at + 1) e) (i.Print ∷ []) (whole-goes cs sc (at + 1) e) (refl, tt))
+  kind-goes cs sc at line env out (print e) h =
+      (refl, goes-then (whole_code cs sc (at + 1) e) (i.Print ∷ []) (whole-goes cs sc (at + 1) e) (refl, tt))
   kind-goes cs sc at line env out collect h = (refl, (refl, tt))
   kind-goes cs sc at line env out (return e) h = no-return cs line env out e h
 
@@ -226,7 +235,8 @@ entry-follows cs at c m heads others h e =
     let b : body (own ++ others.ops) ≡ own = body-is own (last_op m.result) others.ops (method-ends cs at c m h) in
     let n : length (param_types cs m) ≡ length m.params = length-map m.params _ in
     let behind : drop (length own) (own ++ others.ops) ≡ others.ops = drop-append_seam own others.ops in
-    rw (b, n, behind) (ap (λ (es : List Entry). record { at = at; given = suc (length m.params); slots = slots_of (suc (length m.params)) own } ∷ es) e)
+    rw (b, n, behind)
+    (ap (λ (es : List Entry). record { at = at; given = suc (length m.params); slots = slots_of (suc (length m.params)) own } ∷ es) e)
 
 members-follow : (cs : List Class) (at c : ℕ) (ms : List Member) (heads : List Head) (go : ℕ → Methods) → judge_members cs c ms ≡ Ok tt →
     ((behind : ℕ) → (go behind).entries ≡ entries behind heads (go behind).ops) →
@@ -285,5 +295,6 @@ code-follows t a =
     let methods = methods_code t.classes (length main) 0 t.classes in
     let b : body (main ++ methods.ops) ≡ main = body-is main i.Halt methods.ops (main-ends t p.out p.main) in
     let behind : drop (length main) (main ++ methods.ops) ≡ methods.ops = drop-append_seam main methods.ops in
-    let es : methods.entries ≡ entries (length main) (heads_of t.classes) methods.ops = methods-follow t.classes (length main) 0 t.classes p.methods in
+    let es : methods.entries ≡ entries (length main) (heads_of t.classes) methods.ops =
+    methods-follow t.classes (length main) 0 t.classes p.methods in
     rw (b, behind, openings-are t.classes t.classes, es) refl

@@ -7,7 +7,8 @@ use Rattle.rg_code.specs.declared.op.Op.{Op}
 use Rattle.rg_code.specs.declared.op.Op.TheVariants as i
 use Rattle.rg_code.specs.Places.{is_mark}
 use Rattle.rg_code.specs.Lowering.{Scope, whole_code, call_code, call_result, right_code, pace_code, dropped_code, assign_code, assign_element_code}
-use Rattle.rg_code.specs.Lowering.{swap_code, enter_code, leave_op, kind_code, else_code, block_code, scope_behind, scope_inside, scope_at_end, else_gap}
+use Rattle.rg_code.specs.Lowering.{swap_code, enter_code, leave_op, kind_code, else_code, block_code, scope_behind, scope_inside, scope_at_end}
+use Rattle.rg_code.specs.Lowering.{else_gap}
 use Rattle.rg_code.specs.Lowering.{method_scope, method_end_code, method_code, main_code, Methods, members_code, methods_code}
 use Rattle.rg_build.specs.Maps.{inner_maps, else_maps, block_maps, is_end_marked, method_maps, members_maps, methods_maps}
 use Rattle.rg_build.specs.Laws.{marks, EachMarkHasAMap}

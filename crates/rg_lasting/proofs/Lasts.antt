@@ -1,5 +1,6 @@
 -- A step of a behaviour leaves its object held, and region 0 an arena.
-use Rattle.std.proofs.Common.{◌≡◌, inl, inr, ℕ, Bool as Truth, true, false, List, [], Option, Some, None, option_map, slice_get, refl, sym, ap, ◌∙◌, subst}
+use Rattle.std.proofs.Common.{◌≡◌, inl, inr, ℕ, Bool as Truth, true, false, List, [], Option, Some, None, option_map, slice_get, refl, sym, ap, ◌∙◌}
+use Rattle.std.proofs.Common.{subst}
 use Rattle.std.proofs.lemmas.Option.{same_Some}
 use Rattle.rg_base.specs.declared.event.Cause.{Cause}
 use Rattle.rg_base.specs.declared.event.Cause.TheVariants as cause
@@ -134,7 +135,8 @@ module _ (mid : Parts) (sound : IsSound mid.heap mid.frames) where
       none-loses (holds new.heap.cells.heap) in
       let kept = g.stays 0 x.object here x.there
       (λ e. other (region-number (top_region (machine_in mid).windows) 0 (sym e ∙ x.lies)))
-      (λ q e l. none (subst (λ n. Loses (holds mid.heap.cells.heap) (holds new.heap.cells.heap) (machine_in mid) n) (region-number q 0 (sym e ∙ x.lies)) l)) in
+      (λ q e l. none
+      (subst (λ n. Loses (holds mid.heap.cells.heap) (holds new.heap.cells.heap) (machine_in mid) n) (region-number q 0 (sym e ∙ x.lies)) l)) in
       record { object = x.object; there = g.same 0 kept ∙ x.there; lies = x.lies; arena = g.managers 0 none ∙ x.arena }
 
   by-slides : (slides : Truth) (new : Parts) → Shows mid → (top_region (machine_in mid).windows ≡ 0 → ⊥) → GathersBy slides mid new → Shows new
@@ -149,7 +151,8 @@ module _ (mid : Parts) (sound : IsSound mid.heap mid.frames) where
     not-first : (a : Active) → IsActive mid a → (a.manager ≡ Arena → ⊥) → top_region (machine_in mid).windows ≡ 0 → ⊥
     not-first a is other zero =
         let manager = shown-manager t code mid q a sound.stands shown is in
-        let top : active q.windows ≡ 0 = active-of _ shown.grown.windows q.windows shown.shows.windows ∙ ap top_region (sym shown.beside.windows) ∙ zero in
+        let top : active q.windows ≡ 0 = active-of _ shown.grown.windows q.windows shown.shows.windows ∙ ap top_region (sym shown.beside.windows)
+        ∙ zero in
         other (same_Some a.manager Arena (sym manager ∙ ap (slice_get q.managers) top ∙ y.arena))
 
     collected-shows : (why : Cause) (events : List Event) (new : Stepping) (a : Active) → IsActive mid a → (a.manager ≡ Arena → ⊥) → Shows mid

@@ -1,5 +1,6 @@
 -- A step leaves the managers of all regions that were made: a new region's comes behind them.
-use Rattle.std.proofs.Common.{◌≡◌, refl, sym, ◌∙◌, ap, subst, ℕ, zero, suc, nat_lt, Bool as Truth, true, false, if◌then◌else◌, List, [], ◌∷◌, ◌++◌, length}
+use Rattle.std.proofs.Common.{◌≡◌, refl, sym, ◌∙◌, ap, subst, ℕ, zero, suc, nat_lt, Bool as Truth, true, false, if◌then◌else◌, List, [], ◌∷◌, ◌++◌}
+use Rattle.std.proofs.Common.{length}
 use Rattle.std.proofs.Common.{Option, Some, None, option_map, slice_get, slice_set, Result, Ok, arith}
 use Rattle.rg_base.specs.declared.limits.TheConstants.{FRAMES}
 use Rattle.rg_base.specs.declared.object.Label.{Label}
@@ -26,7 +27,8 @@ use Rattle.rg_rules.specs.Evaluation.{object_at, with_field, with_element, eleme
 use Rattle.rg_rules.specs.RightSides.{Use, new_object, new_array, array_size, made_new, with_region, frozen, merged, consumed, taken, called}
 use Rattle.rg_rules.specs.RightSides.{step_call, with_right}
 use Rattle.rg_rules.specs.Steps.{put_field, put_element, step_swap, begin_block, begin_else, with_window, entered, step_enter, step_return, step_kind}
-use Rattle.rg_rules.specs.Steps.{Went, step_assign, step_assign_element, step_leave, put_at, step_leave_giving, step_item, step_first, next, without_top}
+use Rattle.rg_rules.specs.Steps.{Went, step_assign, step_assign_element, step_leave, put_at, step_leave_giving, step_item, step_first, next}
+use Rattle.rg_rules.specs.Steps.{without_top}
 use Rattle.rg_rules.proofs.Answers.{bind-ok, then-ok, test-then}
 use Rattle.rg_rules.proofs.Step.{computed-ok, stepped-went}
 use Rattle.rg_sound.proofs.Frames.Quiet.{went_is}

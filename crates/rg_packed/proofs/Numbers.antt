@@ -26,7 +26,8 @@ use Rattle.rg_code.specs.declared.operands.Operand.{Operand}
 use Rattle.rg_code.specs.declared.operands.Operand.TheVariants as p
 use Rattle.rg_code.specs.Operands.{operands_of}
 use Rattle.rg_code.specs.Lowering.{Scope, slot_of, type_in, type_behind, type_along, field_number, fields_code, path_code, holder_code, held_number}
-use Rattle.rg_code.specs.Lowering.{gap, operator_code, expr_code, exprs_code, used_slots, used_by_all, clears, whole_code, number_called, target_class}
+use Rattle.rg_code.specs.Lowering.{gap, operator_code, expr_code, exprs_code, used_slots, used_by_all, clears, whole_code, number_called}
+use Rattle.rg_code.specs.Lowering.{target_class}
 use Rattle.rg_code.specs.Lowering.{call_code, call_result, new_code, right_code, pace_code, assign_op, dropped_code, scope_behind, scope_inside}
 use Rattle.rg_code.specs.Lowering.{assign_code, assign_element_code, swap_code, enter_code, scope_at_end, leave_op, kind_code, else_code, block_code}
 use Rattle.rg_code.specs.Lowering.{else_gap, method_scope, method_end_code, method_code, Methods, members_code, methods_code}

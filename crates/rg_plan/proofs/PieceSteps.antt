@@ -1,5 +1,6 @@
 -- How a text is cut at its first mark.
-use Rattle.std.proofs.Common.{◌≡◌, ◌∙◌, refl, ap, ℕ, zero, suc, ◌+◌, ◌<◌, ◌≤◌, ◌==◌, Bool, true, false, not, if◌then◌else◌, List, [], ◌∷◌, length, take, drop}
+use Rattle.std.proofs.Common.{◌≡◌, ◌∙◌, refl, ap, ℕ, zero, suc, ◌+◌, ◌<◌, ◌≤◌, ◌==◌, Bool, true, false, not, if◌then◌else◌, List, [], ◌∷◌, length}
+use Rattle.std.proofs.Common.{take, drop}
 use Rattle.std.proofs.Common.{Option, Some, None, arith, one-add}
 use Rattle.std.specs.List.{prefix_len}
 use Rattle.rg_plan.specs.Pieces.{in_front, pieces}

@@ -220,7 +220,8 @@ trees-cons m n ns e es a b = record {
   there = λ u k. All-cons (IsExprNumber u) n ns (a.there u k) (b.there u k);
 }
 
-values-one : (e : Raised) (fs : List Front) (o : Option (List Raised)) → values_in fs ≡ o → values_in (expression e ∷ fs) ≡ ◌>>=◌ o (λ es. Some (e ∷ es))
+values-one : (e : Raised) (fs : List Front) (o : Option (List Raised)) → values_in fs ≡ o →
+    values_in (expression e ∷ fs) ≡ ◌>>=◌ o (λ es. Some (e ∷ es))
 values-one e fs o h = ap (λ (x : Option (List Raised)). ◌>>=◌ x (λ es. Some (e ∷ es))) h
 
 -- rows that are done, and then those of the values

@@ -108,7 +108,8 @@ module _ (g : Given) (types : List Ty) (r : Right) (at : ℕ) (k : Target) (told
           → MakesAs (IsKindSaid m (length types)) t u (taken g types r at) (Ok (v, end))
       taken-made t u m v made =
           let (x, is, grown, means) = one-some (IsKindSaid m (length types)) t u (taken_by g types r end k) v made in
-          makes-so (IsKindSaid m (length types)) t u (taken g types r at) v x end end (taken-as ∙ bind-is (taken_by g types r end k) _ x is) refl grown
+          makes-so (IsKindSaid m (length types)) t u (taken g types r at) v x end end
+          (taken-as ∙ bind-is (taken_by g types r end k) _ x is) refl grown
           means
 
 -- A field or an element is written

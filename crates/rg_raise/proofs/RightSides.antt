@@ -97,7 +97,8 @@ module _ (m : Truth) {t u : Tables} (c : ℕ) {name size : ℕ} (e : Raised) (a 
       (a.extends, (means, refl))
 
   pub array-iso : (manager : Manager)
-      → MakesOne (IsRightSaid m) t u (array_of (walk.NewIso c manager) e) (Ok (record { row = right_row.NewIso name (Some size) manager; paces = false }))
+      → MakesOne (IsRightSaid m) t u (array_of (walk.NewIso c manager) e)
+      (Ok (record { row = right_row.NewIso name (Some size) manager; paces = false }))
   array-iso manager =
       let means = means-two {at = right_of} {exists = IsRightIn} (λ n k. right_row.NewIso n (Some k) manager)
       (λ (n : Name) (x : Expr). tree.new_iso n (Some x) manager) (λ w x y. refl) (λ w x y p q. (p, q)) a.means (means-later is a.extends) in
@@ -146,6 +147,7 @@ module _ (g : Given) (types : List Ty) (e : Raised) (at : ℕ) where
         (array-as ∙ bind-is (array_of w e) _ r told) refl grown is
 
 -- more behind an expression
-pub right-many : (g : Given) (types : List Ty) (e : Raised) (fs : List Front) (at : ℕ) → (fs ≡ [] → ⊥) → right_behind g types (expression e ∷ fs) at ≡ None
+pub right-many : (g : Given) (types : List Ty) (e : Raised) (fs : List Front) (at : ℕ) → (fs ≡ [] → ⊥) →
+    right_behind g types (expression e ∷ fs) at ≡ None
 right-many g types e [] at some = absurd (some refl)
 right-many g types e (f ∷ fs) at some = refl

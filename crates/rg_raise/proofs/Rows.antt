@@ -138,7 +138,8 @@ path-longer {t} {u} {v} m s ks k {p} {n} {ns} {to} old a ns_are keeps e h =
               base = there.base;
               fields = record {
                 within = i.within;
-                each = subst (All (λ k. k < length w.names)) (sym (i.these_are ∙ ns_are)) (All-push (λ k. k < length w.names) _ n each (name.there w j));
+                each = subst (All (λ k. k < length w.names)) (sym (i.these_are ∙ ns_are))
+                    (All-push (λ k. k < length w.names) _ n each (name.there w j));
               };
             };
       };

@@ -117,5 +117,6 @@ module _ (g : Given) (types : List Ty) (s : ℕ) (ks : List ℕ) (args : List Ra
           let c : Call = record { slot = s; fields = ks; callee = record f { number = k }; args = args } in
           let a = adds c refl is trees in
           let one : behind + 1 ≡ suc behind = omega arith in
-          makes-so (IsCallSaid m) t u (called g types s ks args at) (record { row = row; result = f.result }) c (behind + 1) (suc behind) (called-so f h)
+          makes-so (IsCallSaid m) t u (called g types s ks args at) (record { row = row; result = f.result }) c (behind + 1) (suc behind)
+          (called-so f h)
           one a.extends (a.means, refl)

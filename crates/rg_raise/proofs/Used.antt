@@ -40,7 +40,8 @@ drop-one : (ops : List Op) (at : ℕ) (o : Op) (os : List Op) → drop at ops �
 drop-one ops at o os e =
     sym (drop-drop 1 at ops) ∙ ap (λ (xs : List Op). drop 1 xs) e
 
-uses-front : (types : List Ty) (ops body rest : List Op) (at : ℕ) → drop at ops ≡ body ++ rest → uses types ops (length body) at ≡ uses_in types body rest
+uses-front : (types : List Ty) (ops body rest : List Op) (at : ℕ) → drop at ops ≡ body ++ rest →
+    uses types ops (length body) at ≡ uses_in types body rest
 uses-front types ops [] rest at e = refl
 uses-front types ops (o ∷ os) rest at e =
     let behind : drop (at + 1) ops ≡ os ++ rest = drop-one ops at o (os ++ rest) e in
@@ -358,7 +359,8 @@ module _ (ops : List Op) (at : ℕ) (fs : List Front) (end : ℕ) (told : raised
       let s = raised-stand (drop at ops) at fs end told in
       let body = fronts_ops at fs in
       let many : end - at ≡ length body = omega (arith, s.place) in
-      ap (λ (n : ℕ). uses types ops n at) many ∙ uses-front types ops body s.rest at s.parts ∙ uses-fronts types fs at s.rest (ends-stop s.rest s.ends)
+      ap (λ (n : ℕ). uses types ops n at) many ∙ uses-front types ops body s.rest at s.parts
+      ∙ uses-fronts types fs at s.rest (ends-stop s.rest s.ends)
 
 module _ (ops : List Op) (at s : ℕ) (ks : List ℕ) (e : Raised) (fs : List Front) (end : ℕ)
     (told : raised (drop at ops) at ≡ Some (place s ks e ∷ fs, end)) where
@@ -370,7 +372,8 @@ module _ (ops : List Op) (at s : ℕ) (ks : List ℕ) (e : Raised) (fs : List Fr
       let others = fronts_ops (at + length front) fs in
       let many : end - at ≡ length (front ++ others) = omega (arith, stand.place) in
       ap (λ (n : ℕ). behind_place ops n at) many ∙ ended-front ops (front ++ others) stand.rest at stand.parts
-      ∙ ap (λ (n : ℕ). at + n) (ended-place at s ks e others stand.rest (starts-fronts [] fs (at + length front) stand.rest (ends-stop stand.rest stand.ends)))
+      ∙ ap (λ (n : ℕ). at + n)
+      (ended-place at s ks e others stand.rest (starts-fronts [] fs (at + length front) stand.rest (ends-stop stand.rest stand.ends)))
 
   pub place-uses : (types : List Ty)
       → uses types ops (end - behind_place ops (end - at) at) (behind_place ops (end - at) at) ≡ used_in types fs

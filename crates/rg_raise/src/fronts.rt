@@ -5,7 +5,8 @@ ghost use Rattle.rg_tree.specs.Rows.Tables.{Tables};
 ghost use Rattle.rg_tree.specs.Adds.{Extends};
 ghost use Rattle.rg_code.specs.declared.op.Op.{Op};
 ghost use Rattle.rg_verify.specs.Raised.{Front as OneFront};
-ghost use Rattle.rg_raise.specs.Fronts.{AreFrontRows, AreFrontsAt, AreLeft, MakesFronts, TakesFront};
+ghost use Rattle.rg_raise.specs.Fronts.{AreFrontRows, AreFrontsAt, AreLeft, MakesFronts};
+ghost use Rattle.rg_raise.specs.Fronts.{TakesFront};
 ghost use Rattle.rg_raise.specs.Fronts.{TakesFirst, FindsAlone, FindsExprs};
 ghost use Rattle.rg_raise.specs.Fronts as along;
 

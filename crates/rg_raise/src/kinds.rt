@@ -95,7 +95,8 @@ fn taken_by(
 ) -> Result<KindSaid, Refusal>
     ensures told { (r : statements.Right) →
         IsRightSaid source.now.body.in_method program.old right r →
-        MakesOne (IsKindSaid source.now.body.in_method (length types.now.items)) program.old program.new
+        MakesOne (IsKindSaid source.now.body.in_method (length types.now.items)) program.old
+        program.new
         (blocks.taken_by (given source.now) types.now.items r end target) result }
     ensures grows { Extends program.old program.new }
 {
@@ -128,7 +129,8 @@ pub fn taken(
 ) -> Result<(KindSaid, usize), Refusal>
     ensures told { (r : statements.Right) →
         IsRightSaid source.now.body.in_method program.old right r →
-        MakesAs (IsKindSaid source.now.body.in_method (length types.now.items)) program.old program.new
+        MakesAs (IsKindSaid source.now.body.in_method (length types.now.items)) program.old
+        program.new
         (blocks.taken (given source.now) types.now.items r at) result }
     ensures grows { Extends program.old program.new }
 {
@@ -152,7 +154,8 @@ fn call_by(
 ) -> Result<(KindSaid, usize), Refusal>
     ensures told { (c : statements.Call) →
         IsCallSaid source.now.body.in_method program.old call c →
-        MakesAs (IsKindSaid source.now.body.in_method (length types.now.items)) program.old program.new
+        MakesAs (IsKindSaid source.now.body.in_method (length types.now.items)) program.old
+        program.new
         (blocks.call_by (given source.now) types.now.items c at
         (sign target_of source.now.parts.now.code.ops at)) result }
     ensures grows { Extends program.old program.new }
@@ -184,13 +187,15 @@ fn written_to(
     path: Path,
     fronts: Fronts,
 ) -> Result<(KindSaid, usize), Refusal>
-    requires path { (s : ℕ) × (ks : List ℕ) × IsPathTo program.old source.now.body.in_method path s ks }
+    requires path { (s : ℕ) × (ks : List ℕ)
+        × IsPathTo program.old source.now.body.in_method path s ks }
     requires left { (fs : List OneFront) ×
         AreLeft program.old source.now.body.in_method source.now.parts.now.code.ops fronts fs }
     ensures told { (s : ℕ) (ks : List ℕ) (fs : List OneFront) →
         IsPathTo program.old source.now.body.in_method path s ks →
         AreLeft program.old source.now.body.in_method source.now.parts.now.code.ops fronts fs →
-        MakesAs (IsKindSaid source.now.body.in_method (length types.now.items)) program.old program.new
+        MakesAs (IsKindSaid source.now.body.in_method (length types.now.items)) program.old
+        program.new
         (blocks.written_to (given source.now) types.now.items s ks fs fronts.code.end)
         result }
     ensures grows { Extends program.old program.new }
@@ -226,7 +231,8 @@ pub fn element_written(
         IsPathTo program.old source.now.body.in_method path s ks →
         IsTree program.old index (named source.now.body.in_method e) →
         AreLeft program.old source.now.body.in_method source.now.parts.now.code.ops fronts fs →
-        MakesAs (IsKindSaid source.now.body.in_method (length types.now.items)) program.old program.new
+        MakesAs (IsKindSaid source.now.body.in_method (length types.now.items)) program.old
+        program.new
         (blocks.element_written (given source.now) types.now.items s ks e fs
         fronts.code.end) result }
     ensures grows { Extends program.old program.new }
@@ -287,14 +293,16 @@ fn room_by(
     path: Path,
     fronts: Fronts,
 ) -> Result<(KindSaid, usize), Refusal>
-    requires path { (s : ℕ) × (ks : List ℕ) × IsPathTo program.old source.now.body.in_method path s ks }
+    requires path { (s : ℕ) × (ks : List ℕ)
+        × IsPathTo program.old source.now.body.in_method path s ks }
     requires left { (fs : List OneFront) ×
         AreLeft program.old source.now.body.in_method source.now.parts.now.code.ops fronts fs }
     requires next { fronts.code.end + 1 < 2 ^ 64 }
     ensures told { (s : ℕ) (ks : List ℕ) (fs : List OneFront) →
         IsPathTo program.old source.now.body.in_method path s ks →
         AreLeft program.old source.now.body.in_method source.now.parts.now.code.ops fronts fs →
-        MakesAs (IsKindSaid source.now.body.in_method (length types.now.items)) program.old program.new
+        MakesAs (IsKindSaid source.now.body.in_method (length types.now.items)) program.old
+        program.new
         (blocks.room_by (given source.now) types.now.items s ks fs (values_in fs)
         fronts.code.end) result }
     ensures grows { Extends program.old program.new }
@@ -318,13 +326,15 @@ pub fn object_by(
     path: Path,
     fronts: Fronts,
 ) -> Result<(KindSaid, usize), Refusal>
-    requires path { (s : ℕ) × (ks : List ℕ) × IsPathTo program.old source.now.body.in_method path s ks }
+    requires path { (s : ℕ) × (ks : List ℕ)
+        × IsPathTo program.old source.now.body.in_method path s ks }
     requires left { (fs : List OneFront) ×
         AreLeft program.old source.now.body.in_method source.now.parts.now.code.ops fronts fs }
     ensures told { (s : ℕ) (ks : List ℕ) (fs : List OneFront) →
         IsPathTo program.old source.now.body.in_method path s ks →
         AreLeft program.old source.now.body.in_method source.now.parts.now.code.ops fronts fs →
-        MakesAs (IsKindSaid source.now.body.in_method (length types.now.items)) program.old program.new
+        MakesAs (IsKindSaid source.now.body.in_method (length types.now.items)) program.old
+        program.new
         (blocks.object_by (given source.now) types.now.items s ks fs fronts.code.end
         (sign behind_of source.now.parts.now.code.ops fronts.code.end)) result }
     ensures grows { Extends program.old program.new }

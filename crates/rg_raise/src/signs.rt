@@ -3,7 +3,8 @@
 
 ghost use Rattle.std.specs.Prelude.{◌≡◌, ◌+◌, ◌<◌, ◌^◌, slice_get, IfSome};
 ghost use Rattle.rg_verify.specs.Signs.{making_of, target_of, walk_of, behind_of, mark_of};
-ghost use Rattle.rg_verify.specs.Signs.{clear_of, call_of, put_of, put_element_of, left_of, pace_of};
+ghost use Rattle.rg_verify.specs.Signs.{clear_of, call_of, put_of, put_element_of, left_of};
+ghost use Rattle.rg_verify.specs.Signs.{pace_of};
 ghost use Rattle.rg_verify.specs.Blocks.{sign};
 
 use rg_code::{CodeList, Op};

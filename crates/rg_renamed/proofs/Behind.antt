@@ -1,5 +1,6 @@
 -- The variables behind a statement, inside a window and at the end of a block, with the names of their slots.
-use Rattle.std.proofs.Common.{◌≡◌, refl, sym, ap, ◌∙◌, subst, ℕ, zero, suc, ◌+◌, ◌<◌, ◌≤◌, ◌^◌, Bool as Truth, true, false, if◌then◌else◌, List, [], ◌∷◌}
+use Rattle.std.proofs.Common.{◌≡◌, refl, sym, ap, ◌∙◌, subst, ℕ, zero, suc, ◌+◌, ◌<◌, ◌≤◌, ◌^◌, Bool as Truth, true, false, if◌then◌else◌, List, []}
+use Rattle.std.proofs.Common.{◌∷◌}
 use Rattle.std.proofs.Common.{◌++◌, length, map, take, find, append_assoc, Option, Some, None, option_map, Ok, arith}
 use Rattle.std.proofs.lemmas.List.{length-append}
 use Rattle.rg_base.specs.declared.words.Cap.TheVariants.{Mut}

@@ -21,20 +21,23 @@ use Rattle.rg_rules.specs.Paths.{Looked, walk_array, writable_field, all_but_las
 use Rattle.rg_rules.specs.Expressions.{Judged, judge_expr}
 use Rattle.rg_rules.specs.Rights.{Called, judge_call, judge_right}
 use Rattle.rg_rules.specs.Statements.{judge_declare, is_call, judge_assign, judge_assign_element, judge_call_alone, swapped_field, judge_swap}
-use Rattle.rg_rules.specs.Statements.{judge_test, judge_enter, judge_giving, left, judge_print, judge_return, last_of, judge_kind, judge_else, judge_block}
+use Rattle.rg_rules.specs.Statements.{judge_test, judge_enter, judge_giving, left, judge_print, judge_return, last_of, judge_kind, judge_else}
+use Rattle.rg_rules.specs.Statements.{judge_block}
 use Rattle.rg_rules.proofs.Answers.{bind-ok, then-ok, test-then, ok_or-ok, at_line-ok}
 use Rattle.rg_sound.proofs.Frames.Entry.{Absent}
 use Rattle.rg_sound.proofs.Frames.JudgeRight.{judge_expr-stays, judge_right-stays}
 use Rattle.rg_sound.proofs.Frames.Judge.{judge_declare-parts, judge_assign-parts, judge_assign-field, judge_assign-element, judge_swap-parts}
 use Rattle.rg_sound.proofs.Frames.Judge.{judge_test-stays, judge_enter-variable, judge_enter-field}
-use Rattle.rg_code.specs.Lowering.{Scope, slot_of, type_in, type_along, type_behind, class_of, field_number, held_number, scope_behind, scope_inside, scope_at_end}
+use Rattle.rg_code.specs.Lowering.{Scope, slot_of, type_in, type_along, type_behind, class_of, field_number, held_number, scope_behind, scope_inside}
+use Rattle.rg_code.specs.Lowering.{scope_at_end}
 use Rattle.rg_verify.specs.Naming.{variable_name, variable_in, field_name, written}
 use Rattle.rg_verify.specs.Raised.{path_named, named, IsFound}
 use Rattle.rg_verify.specs.Statements as numbers
 use Rattle.rg_verify.specs.Found as found
 use Rattle.rg_verify.specs.Found.{call_named, right_named, kind_named, else_named, block_named, IsEntryFound, IsGivingFound, IsKindFound}
 use Rattle.rg_verify.specs.Found.{IsElseFound, IsBlockFound}
-use Rattle.rg_numbered.specs.Numbered.{field_numbers, path_numbers, numbered, numbered_call, numbered_right, numbered_assign, numbered_swap, bridge_class}
+use Rattle.rg_numbered.specs.Numbered.{field_numbers, path_numbers, numbered, numbered_call, numbered_right, numbered_assign, numbered_swap}
+use Rattle.rg_numbered.specs.Numbered.{bridge_class}
 use Rattle.rg_numbered.specs.Numbered.{numbered_enter, giving_slot, numbered_kind, numbered_else, numbered_block}
 use Rattle.rg_renamed.specs.Renamed.{renamed_classes, renamed_type}
 use Rattle.rg_renamed.proofs.Classes.{AreFew, type-again, good-again}
@@ -49,7 +52,8 @@ use Rattle.rg_renamed.proofs.Paths.{names_again, name_again, split-numbers, clas
 use Rattle.rg_renamed.proofs.Paths.{last-found, along-is}
 use Rattle.rg_renamed.proofs.Expressions.{judged_again, called_again, expr-follows, expr-found, call-follows, call-found, right-follows, right-found}
 use Rattle.rg_renamed.proofs.Expressions.{name-found}
-use Rattle.rg_renamed.proofs.Statements.{declare-follows, assign-follows, element-follows, swap-follows, test-goes, print-goes, return-goes, call-goes}
+use Rattle.rg_renamed.proofs.Statements.{declare-follows, assign-follows, element-follows, swap-follows, test-goes, print-goes, return-goes}
+use Rattle.rg_renamed.proofs.Statements.{call-goes}
 use Rattle.rg_renamed.proofs.Statements.{enter-variable, enter-field, enter-absent, giving-follows, left-again, last-again, fields-apart}
 
 -- a statement of two kinds of parts: it has no fault again, and it is found
@@ -187,4 +191,5 @@ module _ (cs : List Class) (few : AreFew cs) (m : Truth) where
         (kind-follows (last_of result b) line env ss k s (omega (arith, h)))) (λ mid is.
         subst (λ (j : ℕ). Follows (env_again m) (judge_block cs result mid b) (judge_block again result (env_again m mid) (block_named m j inner)))
         (sym (behind-count cs ss k))
-        (block-follows result mid behind b (scoped-behind m cs env ss s (last_of result b) line k mid (omega (arith, l, h)) is) (omega (arith, l, h))))
+        (block-follows result mid behind b (scoped-behind m cs env ss s (last_of result b) line k mid (omega (arith, l, h)) is)
+        (omega (arith, l, h))))

@@ -21,20 +21,23 @@ use Rattle.rg_rules.specs.Paths.{Looked, walk_array, writable_field, all_but_las
 use Rattle.rg_rules.specs.Expressions.{Judged, judge_expr}
 use Rattle.rg_rules.specs.Rights.{Called, judge_call, judge_right}
 use Rattle.rg_rules.specs.Statements.{judge_declare, is_call, judge_assign, judge_assign_element, judge_call_alone, swapped_field, judge_swap}
-use Rattle.rg_rules.specs.Statements.{judge_test, judge_enter, judge_giving, left, judge_print, judge_return, last_of, judge_kind, judge_else, judge_block}
+use Rattle.rg_rules.specs.Statements.{judge_test, judge_enter, judge_giving, left, judge_print, judge_return, last_of, judge_kind, judge_else}
+use Rattle.rg_rules.specs.Statements.{judge_block}
 use Rattle.rg_rules.proofs.Answers.{bind-ok, then-ok, test-then, ok_or-ok, at_line-ok}
 use Rattle.rg_sound.proofs.Frames.Entry.{Absent}
 use Rattle.rg_sound.proofs.Frames.JudgeRight.{judge_expr-stays, judge_right-stays}
 use Rattle.rg_sound.proofs.Frames.Judge.{judge_declare-parts, judge_assign-parts, judge_assign-field, judge_assign-element, judge_swap-parts}
 use Rattle.rg_sound.proofs.Frames.Judge.{judge_test-stays, judge_enter-variable, judge_enter-field}
-use Rattle.rg_code.specs.Lowering.{Scope, with_slot, slot_of, type_in, type_along, type_behind, class_of, field_number, held_number, scope_behind, scope_inside, scope_at_end}
+use Rattle.rg_code.specs.Lowering.{Scope, with_slot, slot_of, type_in, type_along, type_behind, class_of, field_number, held_number, scope_behind}
+use Rattle.rg_code.specs.Lowering.{scope_inside, scope_at_end}
 use Rattle.rg_verify.specs.Naming.{variable_name, variable_in, field_name, written}
 use Rattle.rg_verify.specs.Raised.{path_named, named, IsFound}
 use Rattle.rg_verify.specs.Statements as numbers
 use Rattle.rg_verify.specs.Found as found
 use Rattle.rg_verify.specs.Found.{call_named, right_named, kind_named, else_named, block_named, IsEntryFound, IsGivingFound, IsKindFound}
 use Rattle.rg_verify.specs.Found.{IsElseFound, IsBlockFound}
-use Rattle.rg_numbered.specs.Numbered.{field_numbers, path_numbers, numbered, numbered_call, numbered_right, numbered_assign, numbered_swap, bridge_class}
+use Rattle.rg_numbered.specs.Numbered.{field_numbers, path_numbers, numbered, numbered_call, numbered_right, numbered_assign, numbered_swap}
+use Rattle.rg_numbered.specs.Numbered.{bridge_class}
 use Rattle.rg_numbered.specs.Numbered.{numbered_enter, giving_slot, numbered_kind, numbered_else, numbered_block}
 use Rattle.rg_renamed.specs.Renamed.{renamed_classes, renamed_type}
 use Rattle.rg_renamed.proofs.Classes.{AreFew, type-again, good-again}
@@ -155,7 +158,11 @@ module _ (cs : List Class) (few : AreFew cs) (m : Truth) where
       IsKindFound again (scope_again m ss) m (numbered_enter cs ss x fs (inner env ss s x fs z b w) (giving_slot (end env ss s x fs z b w) w))
   enter-found env front out ss s x [] z b w e o h self =
       let r = entered-found env ss s x [] z b w out [] o (type-is m env ss s x) h self in (
-        record { path = alone-found cs few m env ss s x; class = class_of-again cs (type_in (scope_again m ss) (variable_in m (slot_of ss x))) ∙ ap (class_of cs) (type-is m env ss s x) },
+        record {
+          path = alone-found cs few m env ss s x;
+          class = class_of-again cs (type_in (scope_again m ss) (variable_in m (slot_of ss x)))
+              ∙ ap (class_of cs) (type-is m env ss s x);
+        },
         r.block,
         r.giving,
       )

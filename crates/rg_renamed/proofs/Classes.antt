@@ -109,7 +109,8 @@ pub class-at : (cs : List Class) (c : ℕ) → slice_get (renamed_classes cs) c 
 class-at cs c = from-at (renamed_class cs) cs 0 c c (none-behind c)
 
 fields_by : (cs : List Class) (c : ℕ) (o : Option Class) →
-    filter_map field_member (members_of (option_map (renamed_class cs c) o)) ≡ renamed_from (renamed_field cs) 0 (filter_map field_member (members_of o))
+    filter_map field_member (members_of (option_map (renamed_class cs c) o))
+    ≡ renamed_from (renamed_field cs) 0 (filter_map field_member (members_of o))
 fields_by cs c None = refl
 fields_by cs c (Some d) = member-fields cs c d.members
 

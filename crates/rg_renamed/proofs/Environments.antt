@@ -176,7 +176,8 @@ inside-matches cs env out ss x (f ∷ fs) z m h =
     fields-class cs (all_but_last f fs) (type_in ss x) (seen_type env e.0) q.0 (seen-class env e.0 ∙ ap class_is (sym found)) e.2 in
     let behind : type_along cs (type_in ss x) (f ∷ fs) ≡ r.0.ty =
     along-last cs (type_in ss x) f fs
-    ∙ behind-type cs (type_along cs (type_in ss x) (all_but_last f fs)) (last_field f fs) k.class r.0.ty (front ∙ ap class_is k.reference) k.declared in
+    ∙ behind-type cs (type_along cs (type_in ss x) (all_but_last f fs)) (last_field f fs) k.class r.0.ty
+    (front ∙ ap class_is k.reference) k.declared in
     let class : class_of cs (type_along cs (type_in ss x) (f ∷ fs)) ≡ p.class =
     ap (class_of cs) (behind ∙ ok-is w.1) ∙ iso-of cs p.ty p.class p.iso in
     subst (λ (o : Env). Matches o.entries (scope_inside cs ss (record { base = x; fields = f ∷ fs }) z)) (sym p.out_is)

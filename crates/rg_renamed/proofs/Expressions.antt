@@ -1,5 +1,6 @@
 -- Expressions, calls and right sides that have a type have it again with numbers for names, and are found then.
-use Rattle.std.proofs.Common.{◌≡◌, refl, sym, ap, ◌∙◌, subst, ℕ, ◌+◌, ◌==◌, Bool as Truth, true, false, not as negated, if◌then◌else◌, List, [], ◌∷◌, length}
+use Rattle.std.proofs.Common.{◌≡◌, refl, sym, ap, ◌∙◌, subst, ℕ, ◌+◌, ◌==◌, Bool as Truth, true, false, not as negated, if◌then◌else◌, List, [], ◌∷◌}
+use Rattle.std.proofs.Common.{length}
 use Rattle.std.proofs.Common.{map, Option, Some, None, option_map, ok_or, Ok, arith}
 use Rattle.std.proofs.lemmas.Bool.Decides.{nat_tests}
 use Rattle.std.proofs.lemmas.List.{length-map}
@@ -100,7 +101,8 @@ module _ (cs : List Class) (few : AreFew cs) (m : Truth) where
       Follows (judged_again m) (judge_expr cs env w e) (judge_expr again (env_again m env) w (named m (numbered cs ss e)))
   expr-follows env ss w (number z) s = against-follows m w Int env
   expr-follows env ss w (boolean b) s = against-follows m w Bool env
-  expr-follows env ss w nil s = bind-follows (λ (t : Ty). t) _ (nil_type w) (nil_type w) _ _ (same-follows (nil_type w) (nil_type w) refl) (λ t is. against-follows m w t env)
+  expr-follows env ss w nil s =
+      bind-follows (λ (t : Ty). t) _ (nil_type w) (nil_type w) _ _ (same-follows (nil_type w) (nil_type w) refl) (λ t is. against-follows m w t env)
   expr-follows env ss w (path q) s =
       bind-follows (judged_again m) _ _ _ _ _ (path-follows env ss s q.base q.fields) (λ j is. against-follows m w j.ty j.env)
   expr-follows env ss w (is_nil q) s =
@@ -113,7 +115,8 @@ module _ (cs : List Class) (few : AreFew cs) (m : Truth) where
       let want = operand_type (among o) in
       bind-follows (judged_again m) _ _ _ _ _ (expr-follows env ss want a s) (λ l is.
       bind-follows (judged_again m) _ _ _ _ _ (expr-follows l.env ss want b (expr-stays env ss want a l s is)) (λ r is'.
-      test-follows _ (agree (among o) l.ty r.ty) (agree (among o) l.ty r.ty) Mismatch _ _ refl (λ t. against-follows m w (result_type (among o)) r.env)))
+      test-follows _ (agree (among o) l.ty r.ty) (agree (among o) l.ty r.ty) Mismatch _ _ refl
+      (λ t. against-follows m w (result_type (among o)) r.env)))
   expr-follows env ss w (size q) s =
       then-follows (λ (a : Looked). a) _ _ _ _ _ (array-follows cs few m env ss s q.base q.fields) (against-follows m w Int env)
   expr-follows env ss w (element q e) s =
@@ -196,7 +199,8 @@ module _ (cs : List Class) (few : AreFew cs) (m : Truth) where
     call-follows c =
         bind-follows (λ (t : Ty). t) _ _ _ _ _ (walk-follows cs few m env ss s c.target.base c.target.fields) (λ t is.
         bind-follows (λ (r : Followed). r) _ (follow t) (follow t) _ _ (same-follows (follow t) (follow t) refl) (λ r is'.
-        found-follows (renamed_method cs r.class (place c)) _ (method_named cs r.class c.method) (method_named again r.class (method_name (place c))) Unknown _ _ (λ q h. called-is c r.class q (target-is c t r is is') h) (λ q h.
+        found-follows (renamed_method cs r.class (place c)) _ (method_named cs r.class c.method)
+        (method_named again r.class (method_name (place c))) Unknown _ _ (λ q h. called-is c r.class q (target-is c t r is is') h) (λ q h.
         test-follows _ (below t (Ref q.receiver r.class)) (below t (Ref q.receiver r.class)) Capability _ _ refl (λ b.
         test-follows _ (length c.args == length q.params)
         (length (map (named m) (map (numbered cs ss) c.args)) == length (renamed_params cs 1 q.params)) Arity _ _
@@ -227,7 +231,8 @@ module _ (cs : List Class) (few : AreFew cs) (m : Truth) where
         let target : target_class again (scope_again m ss) (call_named m (numbered_call cs ss c)) ≡ target_class cs ss c =
         class_of-again cs (type_along again (type_in (scope_again m ss) (variable_in m (slot_of ss x))) (names_again cs (type_in ss x) fs))
         ∙ ap (class_of cs) (along-is cs few m env ss s x fs t.0 t.1) in
-        let again-there : method_named again (target_class cs ss c) (method_name (place c)) ≡ Some (renamed_method cs (target_class cs ss c) (place c) d.0) =
+        let again-there : method_named again (target_class cs ss c) (method_name (place c))
+        ≡ Some (renamed_method cs (target_class cs ss c) (place c) d.0) =
         method-again cs few (target_class cs ss c) c.method d.0 named-there in
         record {
           target = path-found cs few m env ss s x fs t.0 t.1;
@@ -306,7 +311,8 @@ module _ (cs : List Class) (few : AreFew cs) (m : Truth) where
     name-found y =
         ap (slot_of (scope_again m ss)) (sym (slot-name m ss y s.self)) ∙ slot-is m env ss s (Some y)
 
-    pub right-found : (w : Ty) (r : Right) (j : Judged) → judge_right cs env w r ≡ Ok j → IsRightFound again (scope_again m ss) m (numbered_right cs ss r)
+    pub right-found : (w : Ty) (r : Right) (j : Judged) → judge_right cs env w r ≡ Ok j →
+        IsRightFound again (scope_again m ss) m (numbered_right cs ss r)
     right-found w (value e) j h = expr-found env ss (Some w) e j s h
     right-found w (new x n) j h = new-found w Mut x n j h
     right-found w (new_tmp x n) j h = new-found w Tmp x n j h

@@ -55,7 +55,8 @@ pub found-follows : {A B C D E : Type 0} (f : A → B) (g : C → D) (o : Option
     Follows g (◌>>=◌ (ok_or o e) go) (◌>>=◌ (ok_or q e) to)
 found-follows f g o q e go to same rest = record { ok = λ c h. found_by f g o e go to rest o refl c h q same }
 
-line_by : {A B : Type 0} (f : A → B) (line : ℕ) (r : Answer A) (s : Answer B) → Follows f r s → (a : A) → at_line line r ≡ Ok a → at_line line s ≡ Ok (f a)
+line_by : {A B : Type 0} (f : A → B) (line : ℕ) (r : Answer A) (s : Answer B) → Follows f r s → (a : A) → at_line line r ≡ Ok a →
+    at_line line s ≡ Ok (f a)
 line_by f line r s first a h = ap (at_line line) (first.ok a (at_line-ok line r a h))
 
 pub line-follows : {A B : Type 0} (f : A → B) (line : ℕ) (r : Answer A) (s : Answer B) → Follows f r s → Follows f (at_line line r) (at_line line s)

@@ -7,7 +7,8 @@ use Rattle.rg_tree.specs.Tree.{Name, Ty as Written, int, bool, ref, Param, Field
 use Rattle.rg_rules.specs.Answers.{◌>>◌, test, at_line}
 use Rattle.rg_rules.specs.Names.{HasFewNames}
 use Rattle.rg_rules.specs.Types.{good_type, field_member, method_member}
-use Rattle.rg_rules.specs.Headers.{suits_field_type, is_iso_written, suits_receiver, among, field_header, element_header, param_headers, result_header}
+use Rattle.rg_rules.specs.Headers.{suits_field_type, is_iso_written, suits_receiver, among, field_header, element_header, param_headers}
+use Rattle.rg_rules.specs.Headers.{result_header}
 use Rattle.rg_rules.specs.Headers.{method_header, member_headers, no_members, rest_header, class_names, class_members, judge_headers}
 use Rattle.rg_rules.specs.Bodies.{method_body, judge_body, gives_result, judge_method, judge_members}
 use Rattle.rg_base.specs.declared.fault.Code.TheVariants.{Return}
@@ -15,7 +16,8 @@ use Rattle.rg_base.specs.declared.limits.TheConstants.{BODY_NAMES}
 use Rattle.rg_rules.proofs.Answers.{then-ok, test-ok, test-then, at_line-ok}
 use Rattle.rg_rules.proofs.Header.{member_headers-parts, no_members-none, rest_header-members}
 use Rattle.rg_verify.specs.Naming.{variable_name, field_name, class_name, method_name}
-use Rattle.rg_renamed.specs.Renamed.{renamed_classes, renamed_type, renamed_params, renamed_method, renamed_field, renamed_from, renamed_members, renamed_class}
+use Rattle.rg_renamed.specs.Renamed.{renamed_classes, renamed_type, renamed_params, renamed_method, renamed_field, renamed_from, renamed_members}
+use Rattle.rg_renamed.specs.Renamed.{renamed_class}
 use Rattle.rg_renamed.proofs.Names.{AreApart, variables-apart, fields-apart, classes-apart, methods-apart, other-bytes}
 use Rattle.rg_renamed.proofs.Classes.{AreFew, good-again}
 use Rattle.rg_renamed.proofs.Methods.{MethodFine}

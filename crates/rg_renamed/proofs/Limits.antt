@@ -19,7 +19,8 @@ use Rattle.rg_verify.specs.Raised.{named}
 use Rattle.rg_verify.specs.Statements as numbers
 use Rattle.rg_verify.specs.Found as found
 use Rattle.rg_verify.specs.Found.{right_named, kind_named, else_named, block_named}
-use Rattle.rg_numbered.specs.Numbered.{numbered, numbered_right, numbered_assign, numbered_swap, numbered_enter, giving_slot, numbered_kind, numbered_else}
+use Rattle.rg_numbered.specs.Numbered.{numbered, numbered_right, numbered_assign, numbered_swap, numbered_enter, giving_slot, numbered_kind}
+use Rattle.rg_numbered.specs.Numbered.{numbered_else}
 use Rattle.rg_numbered.specs.Numbered.{numbered_block}
 use Rattle.rg_renamed.specs.Renamed.{renamed_classes, renamed_method, renamed_field, renamed_from, renamed_members, renamed_class, renamed}
 use Rattle.rg_renamed.proofs.Names.{from-long}

@@ -1,9 +1,11 @@
 -- A method that has no fault has none again with numbers for names, and its code and its maps are the same.
-use Rattle.std.proofs.Common.{◌≡◌, refl, sym, ap, ◌∙◌, subst, ℕ, suc, ◌+◌, ◌<◌, ◌^◌, Bool as Truth, true, false, List, [], ◌∷◌, ◌++◌, length, Option, Some}
+use Rattle.std.proofs.Common.{◌≡◌, refl, sym, ap, ◌∙◌, subst, ℕ, suc, ◌+◌, ◌<◌, ◌^◌, Bool as Truth, true, false, List, [], ◌∷◌, ◌++◌, length, Option}
+use Rattle.std.proofs.Common.{Some}
 use Rattle.std.proofs.Common.{None, option_map, Ok, arith}
 use Rattle.rg_base.specs.declared.ty.Ty.{Ty}
 use Rattle.rg_base.specs.declared.fault.Code.TheVariants.{Return}
-use Rattle.rg_tree.specs.Tree.{Name, Variable, Ty as Written, stmt, StmtKind, declare, assign, assign_element, call, swap, branch, while, enter, print}
+use Rattle.rg_tree.specs.Tree.{Name, Variable, Ty as Written, stmt, StmtKind, declare, assign, assign_element, call, swap, branch, while, enter}
+use Rattle.rg_tree.specs.Tree.{print}
 use Rattle.rg_tree.specs.Tree.{collect, return, Block, empty, then as next, Method, Class}
 use Rattle.rg_rules.specs.Answers.{◌>>◌, test, at_line}
 use Rattle.rg_rules.specs.Names.{block_names, method_names}

@@ -6,7 +6,8 @@ use Rattle.rg_base.specs.declared.words.Cap.TheVariants as cap
 use Rattle.rg_base.specs.declared.ty.Ty.{Ty}
 use Rattle.rg_base.specs.declared.ty.Ty.TheVariants as ty
 use Rattle.rg_tree.specs.Tree.{Name, Variable, Path, Expr, number, boolean, nil, path, is_nil, neg, not, binary, size, element, Call, Right, value}
-use Rattle.rg_tree.specs.Tree.{new, new_tmp, new_iso, freeze, merge, read, more, result_of, stmt, StmtKind, declare, assign, assign_element, call, swap}
+use Rattle.rg_tree.specs.Tree.{new, new_tmp, new_iso, freeze, merge, read, more, result_of, stmt, StmtKind, declare, assign, assign_element, call}
+use Rattle.rg_tree.specs.Tree.{swap}
 use Rattle.rg_tree.specs.Tree.{branch, while, enter, print, collect, return, Else, no_else, otherwise, Block, empty, then as next, Class}
 use Rattle.rg_rules.specs.Capabilities.{is_iso}
 use Rattle.rg_rules.specs.Types.{class_number, type_of, methods_of}
@@ -24,7 +25,8 @@ use Rattle.rg_verify.specs.Statements as numbers
 use Rattle.rg_verify.specs.Statements.{type_at, used_by_path, used, all_used, types_behind, types_inside, whole_ops, call_ops, new_ops, right_ops}
 use Rattle.rg_verify.specs.Statements.{pace_ops, assign_op, leave_op, else_gap, kind_ops, else_ops, block_ops}
 use Rattle.rg_verify.specs.Found.{types_of}
-use Rattle.rg_numbered.specs.Numbered.{field_numbers, path_numbers, numbered, numbered_call, numbered_right, numbered_assign, numbered_swap, bridge_class}
+use Rattle.rg_numbered.specs.Numbered.{field_numbers, path_numbers, numbered, numbered_call, numbered_right, numbered_assign, numbered_swap}
+use Rattle.rg_numbered.specs.Numbered.{bridge_class}
 use Rattle.rg_numbered.specs.Numbered.{numbered_enter, giving_slot, numbered_kind, numbered_else, numbered_block}
 
 -- Each `swap` has a field

@@ -5,7 +5,8 @@ use Rattle.rg_base.specs.declared.words.Cap.TheVariants as cap
 use Rattle.rg_base.specs.declared.ty.Ty.{Ty}
 use Rattle.rg_base.specs.declared.ty.Ty.TheVariants as ty
 use Rattle.rg_tree.specs.Tree as tree
-use Rattle.rg_tree.specs.Tree.{Name, Variable, Path, stmt, StmtKind, declare, assign, assign_element, call, swap, branch, while, enter, print, collect}
+use Rattle.rg_tree.specs.Tree.{Name, Variable, Path, stmt, StmtKind, declare, assign, assign_element, call, swap, branch, while, enter, print}
+use Rattle.rg_tree.specs.Tree.{collect}
 use Rattle.rg_tree.specs.Tree.{return, Else, no_else, otherwise, Block, empty, then as next, Class}
 use Rattle.rg_rules.specs.Types.{type_of}
 use Rattle.rg_code.specs.Lowering.{Scope, Slot, with_slot, slot_of, scope_behind, scope_inside, scope_at_end, class_of, type_in, type_along}

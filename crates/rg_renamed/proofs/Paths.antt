@@ -1,5 +1,6 @@
 -- Paths that were walked are walked again by their numbers, and are found by them.
-use Rattle.std.proofs.Common.{◌≡◌, refl, sym, ap, ◌∙◌, subst, ℕ, zero, suc, ◌+◌, Bool as Truth, true, false, if◌then◌else◌, List, [], ◌∷◌, ◌++◌, length}
+use Rattle.std.proofs.Common.{◌≡◌, refl, sym, ap, ◌∙◌, subst, ℕ, zero, suc, ◌+◌, Bool as Truth, true, false, if◌then◌else◌, List, [], ◌∷◌, ◌++◌}
+use Rattle.std.proofs.Common.{length}
 use Rattle.std.proofs.Common.{map, Option, Some, None, ok_or, unwrap_or, Ok, arith}
 use Rattle.rg_base.specs.declared.words.Cap.{Cap}
 use Rattle.rg_base.specs.declared.ty.Ty.{Ty}
@@ -96,7 +97,8 @@ module _ (cs : List Class) (few : AreFew cs) where
       (λ d h. ok-follows _ _ _ refl))
 
   -- the type behind a field that was walked has its class
-  walked-class : (t u v : Ty) (f : Name) → class_is u ≡ class_is t → walk_field cs u f ≡ Ok v → (c : ℕ) × (d : Ty) × FieldStep t f c d × (class_is v ≡ class_is (type_behind cs t f))
+  walked-class : (t u v : Ty) (f : Name) → class_is u ≡ class_is t → walk_field cs u f ≡ Ok v → (c : ℕ) × (d : Ty) × FieldStep t f c d
+      × (class_is v ≡ class_is (type_behind cs t f))
   walked-class t u v f e h =
       let q = bind-ok (look_up cs u f) _ v h in
       let k = look_up-ok cs u f q.0 q.1 in
@@ -152,7 +154,8 @@ module _ (cs : List Class) (few : AreFew cs) where
     array-follows x fs =
         bind-follows (λ (t : Ty). t) _ _ _ _ _ (walk-follows x fs) (λ t is.
         bind-follows (λ (r : Followed). r) _ (follow t) (follow t) _ _ (same-follows (follow t) (follow t) refl) (λ r is'.
-        found-follows (λ (d : Ty). d) _ (element_type cs r.class) (element_type again r.class) Mismatch _ _ (λ d h. element-again cs few r.class ∙ h) (λ d h. ok-follows _ _ _ refl)))
+        found-follows (λ (d : Ty). d) _ (element_type cs r.class) (element_type again r.class) Mismatch _ _ (λ d h. element-again cs few r.class ∙ h)
+        (λ d h. ok-follows _ _ _ refl)))
 
     -- a path that was walked
     pub record WalkedAgain (x : Variable) (fs : List Name) (r : Ty) : Type 0 where

@@ -1,10 +1,12 @@
 -- Variables by the names of their slots: what is found by a name in a scope or an environment is found by that of its slot there.
-use Rattle.std.proofs.Common.{◌≡◌, refl, sym, ap, ◌∙◌, subst, ℕ, zero, suc, ◌+◌, ◌<◌, ◌≤◌, ◌^◌, Bool as Truth, true, false, ◌&&◌, ◌||◌, not, if◌then◌else◌}
+use Rattle.std.proofs.Common.{◌≡◌, refl, sym, ap, ◌∙◌, subst, ℕ, zero, suc, ◌+◌, ◌<◌, ◌≤◌, ◌^◌, Bool as Truth, true, false, ◌&&◌, ◌||◌, not}
+use Rattle.std.proofs.Common.{if◌then◌else◌}
 use Rattle.std.proofs.Common.{List, [], ◌∷◌, ◌++◌, length, map, take, find, Option, Some, None, is_some, option_map, arith}
 use Rattle.std.proofs.lemmas.List.{length-append}
 use Rattle.rg_base.specs.declared.ty.Ty.{Ty}
 use Rattle.rg_base.specs.declared.ty.Ty.TheVariants.{Int}
-use Rattle.rg_tree.specs.Tree.{Name, Variable, Path, StmtKind, declare, assign, assign_element, call, swap, branch, while, enter, print, collect, return}
+use Rattle.rg_tree.specs.Tree.{Name, Variable, Path, StmtKind, declare, assign, assign_element, call, swap, branch, while, enter, print, collect}
+use Rattle.rg_tree.specs.Tree.{return}
 use Rattle.rg_tree.specs.Tree.{Class}
 use Rattle.rg_rules.specs.Environment.{Readiness, ready, Entry, Env, same_variable, entry_of, visible, with_variable, marked_entry, marked, closed}
 use Rattle.rg_rules.specs.Environment.{joined_readiness, joined_entries, joined, covers_entries, covers, is_ready}
@@ -48,10 +50,12 @@ slots-again m [] k n x e r = (refl, refl)
 slots-again m (s ∷ ss) k n x e r = by (same_variable s.name x) e (slots-again m ss (suc k) n x)
   where
     by : (b : Truth) → n ≡ k + (if b then 0 else suc (slot_of ss x)) → (n ≡ suc k + slot_of ss x → suc k + length ss < 2 ^ 64 →
-        (slot_of (renamed_from (slot_again m) (suc k) ss) (variable_in m n) ≡ slot_of ss x) × (type_in (renamed_from (slot_again m) (suc k) ss) (variable_in m n) ≡ type_in ss x)) →
+        (slot_of (renamed_from (slot_again m) (suc k) ss) (variable_in m n) ≡ slot_of ss x)
+        × (type_in (renamed_from (slot_again m) (suc k) ss) (variable_in m n) ≡ type_in ss x)) →
         ((if same_variable (variable_in m k) (variable_in m n) then 0 else suc (slot_of (renamed_from (slot_again m) (suc k) ss) (variable_in m n)))
         ≡ (if b then 0 else suc (slot_of ss x)))
-        × ((if same_variable (variable_in m k) (variable_in m n) then s.ty else type_in (renamed_from (slot_again m) (suc k) ss) (variable_in m n)) ≡ (if b then s.ty else type_in ss x))
+        × ((if same_variable (variable_in m k) (variable_in m n) then s.ty else type_in (renamed_from (slot_again m) (suc k) ss) (variable_in m n))
+        ≡ (if b then s.ty else type_in ss x))
     by true e h =
         let q = same-slot m k n (omega (arith, e)) in (
           ap (λ (b : Truth). if b then 0 else suc (slot_of (renamed_from (slot_again m) (suc k) ss) (variable_in m n))) q,
@@ -77,15 +81,20 @@ entries-again m (o ∷ es) (s ∷ ss) k n x h e r =
     (e ∙ ap (λ (v : Variable). k + (if same_variable v x then 0 else suc (slot_of ss x))) h.0) (entries-again m es ss (suc k) n x h.2)
   where
     by : (b : Truth) → n ≡ k + (if b then 0 else suc (slot_of ss x)) → (n ≡ suc k + slot_of ss x → suc k + length ss < 2 ^ 64 →
-        (find (λ (q : Entry). same_variable q.name (variable_in m n)) (renamed_from (entry_again m) (suc k) es)) ≡ option_map (entry_again m n) (find (λ (q : Entry). same_variable q.name x) es)) →
-        (if same_variable (variable_in m k) (variable_in m n) then Some (entry_again m k o) else (find (λ (q : Entry). same_variable q.name (variable_in m n)) (renamed_from (entry_again m) (suc k) es)))
+        (find (λ (q : Entry). same_variable q.name (variable_in m n)) (renamed_from (entry_again m) (suc k) es))
+        ≡ option_map (entry_again m n) (find (λ (q : Entry). same_variable q.name x) es)) →
+        (if same_variable (variable_in m k) (variable_in m n) then Some (entry_again m k o)
+        else (find (λ (q : Entry). same_variable q.name (variable_in m n)) (renamed_from (entry_again m) (suc k) es)))
         ≡ option_map (entry_again m n) (if b then Some o else find (λ (q : Entry). same_variable q.name x) es)
     by true e g =
         let same : k ≡ n = omega (arith, e) in
-        ap (λ (b : Truth). if b then Some (entry_again m k o) else (find (λ (q : Entry). same_variable q.name (variable_in m n)) (renamed_from (entry_again m) (suc k) es))) (same-slot m k n same) ∙ ap (λ (j : ℕ). Some (entry_again m j o)) same
+        ap (λ (b : Truth). if b then Some (entry_again m k o)
+        else (find (λ (q : Entry). same_variable q.name (variable_in m n)) (renamed_from (entry_again m) (suc k) es))) (same-slot m k n same)
+        ∙ ap (λ (j : ℕ). Some (entry_again m j o)) same
     by false e g =
         let l = slot-bound ss x in
-        ap (λ (b : Truth). if b then Some (entry_again m k o) else (find (λ (q : Entry). same_variable q.name (variable_in m n)) (renamed_from (entry_again m) (suc k) es)))
+        ap (λ (b : Truth). if b then Some (entry_again m k o)
+        else (find (λ (q : Entry). same_variable q.name (variable_in m n)) (renamed_from (entry_again m) (suc k) es)))
         (other-slot m k n (λ z. omega (arith, e, z)) (omega (arith, r)) (omega (arith, e, r, l)))
         ∙ g (omega (arith, e)) (omega (arith, r))
 
@@ -107,7 +116,8 @@ unmarked-again : (m : Truth) (now : Readiness) (es : List Entry) (k n : ℕ) →
 unmarked-again m now [] k n l r = refl
 unmarked-again m now (o ∷ es) k n l r =
     let e = entry_again m k o in
-    ap (λ (b : Truth). (if b then record e { readiness = now } else e) ∷ map (marked_entry (variable_in m n) now) (renamed_from (entry_again m) (suc k) es))
+    ap (λ (b : Truth). (if b then record e { readiness = now } else e) ∷ map (marked_entry (variable_in m n) now)
+    (renamed_from (entry_again m) (suc k) es))
     (other-slot m k n (λ z. omega (arith, l, z)) (omega (arith, r)) (omega (arith, l, r)))
     ∙ ap (λ (os : List Entry). e ∷ os) (unmarked-again m now es (suc k) n (omega (arith, l)) (omega (arith, r)))
 
@@ -127,22 +137,26 @@ marks-again m now (o ∷ es) (s ∷ ss) k n x d h c e r =
     by (same_variable o.name x) refl
     (e ∙ ap (λ (v : Variable). k + (if same_variable v x then 0 else suc (slot_of ss x))) h.0) (marks-again m now es ss (suc k) n x d.1 h.2)
   where
-    by : (b : Truth) → same_variable o.name x ≡ b → n ≡ k + (if b then 0 else suc (slot_of ss x)) → (length es ≡ length ss → n ≡ suc k + slot_of ss x →
+    by : (b : Truth) → same_variable o.name x ≡ b → n ≡ k + (if b then 0 else suc (slot_of ss x)) →
+        (length es ≡ length ss → n ≡ suc k + slot_of ss x →
         suc k + length ss < 2 ^ 64 →
-        map (marked_entry (variable_in m n) now) (renamed_from (entry_again m) (suc k) es) ≡ renamed_from (entry_again m) (suc k) (map (marked_entry x now) es)) →
+        map (marked_entry (variable_in m n) now) (renamed_from (entry_again m) (suc k) es)
+        ≡ renamed_from (entry_again m) (suc k) (map (marked_entry x now) es)) →
         (if same_variable (variable_in m k) (variable_in m n) then record (entry_again m k o) { readiness = now } else (entry_again m k o))
         ∷ map (marked_entry (variable_in m n) now) (renamed_from (entry_again m) (suc k) es)
         ≡ entry_again m k (if b then record o { readiness = now } else o) ∷ renamed_from (entry_again m) (suc k) (map (marked_entry x now) es)
     by true is e g =
         let same : k ≡ n = omega (arith, e) in
         let absent : Absent x es = subst (λ (v : Variable). Absent v es) (same_variable-true o.name x is) d.0 in
-        ap (λ (b : Truth). (if b then record (entry_again m k o) { readiness = now } else (entry_again m k o)) ∷ map (marked_entry (variable_in m n) now) (renamed_from (entry_again m) (suc k) es)) (same-slot m k n same)
+        ap (λ (b : Truth). (if b then record (entry_again m k o) { readiness = now } else (entry_again m k o)) ∷ map
+        (marked_entry (variable_in m n) now) (renamed_from (entry_again m) (suc k) es)) (same-slot m k n same)
         ∙ ap (λ (os : List Entry). record (entry_again m k o) { readiness = now } ∷ os)
         (unmarked-again m now es (suc k) n (omega (arith, e)) (omega (arith, r, c))
         ∙ sym (ap (renamed_from (entry_again m) (suc k)) (unmarked x now es absent)))
     by false is e g =
         let l = slot-bound ss x in
-        ap (λ (b : Truth). (if b then record (entry_again m k o) { readiness = now } else (entry_again m k o)) ∷ map (marked_entry (variable_in m n) now) (renamed_from (entry_again m) (suc k) es))
+        ap (λ (b : Truth). (if b then record (entry_again m k o) { readiness = now } else (entry_again m k o)) ∷ map
+        (marked_entry (variable_in m n) now) (renamed_from (entry_again m) (suc k) es))
         (other-slot m k n (λ z. omega (arith, e, z)) (omega (arith, r)) (omega (arith, e, r, l)))
         ∙ ap (λ (os : List Entry). (entry_again m k o) ∷ os) (g (omega (arith, c)) (omega (arith, e)) (omega (arith, r)))
 

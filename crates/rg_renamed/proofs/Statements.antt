@@ -21,20 +21,23 @@ use Rattle.rg_rules.specs.Paths.{Looked, walk_array, writable_field, all_but_las
 use Rattle.rg_rules.specs.Expressions.{Judged, judge_expr}
 use Rattle.rg_rules.specs.Rights.{Called, judge_call, judge_right}
 use Rattle.rg_rules.specs.Statements.{judge_declare, is_call, judge_assign, judge_assign_element, judge_call_alone, swapped_field, judge_swap}
-use Rattle.rg_rules.specs.Statements.{judge_test, judge_enter, judge_giving, left, judge_print, judge_return, last_of, judge_kind, judge_else, judge_block}
+use Rattle.rg_rules.specs.Statements.{judge_test, judge_enter, judge_giving, left, judge_print, judge_return, last_of, judge_kind, judge_else}
+use Rattle.rg_rules.specs.Statements.{judge_block}
 use Rattle.rg_rules.proofs.Answers.{bind-ok, then-ok, test-then, ok_or-ok, at_line-ok}
 use Rattle.rg_sound.proofs.Frames.Entry.{Absent}
 use Rattle.rg_sound.proofs.Frames.JudgeRight.{judge_expr-stays, judge_right-stays}
 use Rattle.rg_sound.proofs.Frames.Judge.{judge_declare-parts, judge_assign-parts, judge_assign-field, judge_assign-element, judge_swap-parts}
 use Rattle.rg_sound.proofs.Frames.Judge.{judge_test-stays, judge_enter-variable, judge_enter-field}
-use Rattle.rg_code.specs.Lowering.{Scope, slot_of, type_in, type_along, type_behind, class_of, field_number, held_number, scope_behind, scope_inside, scope_at_end}
+use Rattle.rg_code.specs.Lowering.{Scope, slot_of, type_in, type_along, type_behind, class_of, field_number, held_number, scope_behind, scope_inside}
+use Rattle.rg_code.specs.Lowering.{scope_at_end}
 use Rattle.rg_verify.specs.Naming.{variable_name, variable_in, field_name, written}
 use Rattle.rg_verify.specs.Raised.{path_named, named, IsFound}
 use Rattle.rg_verify.specs.Statements as numbers
 use Rattle.rg_verify.specs.Found as found
 use Rattle.rg_verify.specs.Found.{call_named, right_named, kind_named, else_named, block_named, IsEntryFound, IsGivingFound, IsKindFound}
 use Rattle.rg_verify.specs.Found.{IsElseFound, IsBlockFound}
-use Rattle.rg_numbered.specs.Numbered.{field_numbers, path_numbers, numbered, numbered_call, numbered_right, numbered_assign, numbered_swap, bridge_class}
+use Rattle.rg_numbered.specs.Numbered.{field_numbers, path_numbers, numbered, numbered_call, numbered_right, numbered_assign, numbered_swap}
+use Rattle.rg_numbered.specs.Numbered.{bridge_class}
 use Rattle.rg_numbered.specs.Numbered.{numbered_enter, giving_slot, numbered_kind, numbered_else, numbered_block}
 use Rattle.rg_renamed.specs.Renamed.{renamed_classes, renamed_type}
 use Rattle.rg_renamed.proofs.Classes.{AreFew, type-again, good-again}
@@ -72,7 +75,8 @@ module _ (cs : List Class) (few : AreFew cs) (m : Truth) where
 
   -- the names of the numbers of a path whose last field is apart
   pub fields-apart : (t : Ty) (f : Name) (fs : List Name) →
-      map field_name (field_numbers cs t (all_but_last f fs) ++ field_number cs (type_along cs t (all_but_last f fs)) (last_field f fs) ∷ []) ≡ names_again cs t (f ∷ fs)
+      map field_name (field_numbers cs t (all_but_last f fs) ++ field_number cs (type_along cs t (all_but_last f fs)) (last_field f fs) ∷ [])
+      ≡ names_again cs t (f ∷ fs)
   fields-apart t f fs = ap (map field_name) (split-numbers cs t f fs)
 
   module _ (env : Env) (ss : Scope) (s : Scoped m env ss) where
@@ -89,19 +93,22 @@ module _ (cs : List Class) (few : AreFew cs) (m : Truth) where
     pub declare-follows : (x : Name) (t : Written) (r : Right) → Follows (env_again m) (judge_declare cs env x t r)
         (judge_declare again (env_again m env) (variable_name (length ss)) (renamed_type cs t) (right_named m (numbered_right cs ss r)))
     declare-follows x t r =
-        passes-follows _ (negated (visible env (Some x))) (negated (visible (env_again m env) (Some (variable_name (length ss))))) Duplicate _ _ is-new
+        passes-follows _ (negated (visible env (Some x)))
+        (negated (visible (env_again m env) (Some (variable_name (length ss))))) Duplicate _ _ is-new
         (bind-follows (λ (d : Ty). d) _ (good_type cs t) (good_type again (renamed_type cs t)) _ _ (same-follows _ _ (good-again cs few t)) (λ d is.
         bind-follows (judged_again m) _ _ _ _ _ (right-follows cs few m env ss s d r) (λ j is'.
         ok-follows _ _ _ (more-again m j.env ss (right-scoped d r j is') (Some x) d true))))
 
     -- `x = r` and `q.f = r`
-    pub assign-follows : (last : Option Ty) (line : ℕ) (x : Variable) (fs : List Name) (r : Right) → Follows (env_again m) (at_line line (judge_assign cs env x fs r))
+    pub assign-follows : (last : Option Ty) (line : ℕ) (x : Variable) (fs : List Name) (r : Right) →
+        Follows (env_again m) (at_line line (judge_assign cs env x fs r))
         (judge_kind again last line (env_again m env) (kind_named m (length ss) (numbered_assign cs ss x fs (numbered_right cs ss r))))
     assign-follows last line x [] r =
         line-follows _ line _ _
         (found-follows (entry_again m (slot_of ss x)) _ _ _ _ _ _ (λ e h. found-again m env ss s x e h) (λ e h.
         test-follows _ e.assignable e.assignable OutsideWindow _ _ refl (λ a.
-        test-follows _ (at_depth env e || negated (stays_at_depth e.ty)) (at_depth env e || negated (stays_at_depth e.ty)) OutsideWindow _ _ refl (λ b.
+        test-follows _ (at_depth env e || negated (stays_at_depth e.ty)) (at_depth env e || negated (stays_at_depth e.ty)) OutsideWindow _ _ refl
+        (λ b.
         test-follows _ (negated (is_lent e.readiness)) (negated (is_lent e.readiness)) Unavailable _ _ refl (λ c.
         bind-follows (judged_again m) _ _ _ _ _ (right-follows cs few m env ss s e.ty r) (λ j is.
         ok-follows _ _ _ (marked-again m j.env ss (right-scoped e.ty r j is) x ready)))))))
@@ -184,7 +191,8 @@ module _ (cs : List Class) (few : AreFew cs) (m : Truth) where
         found-follows (entry_again m (slot_of ss x)) _ _ _ _ _ _ (λ e h. found-again m env ss s x e h) (λ e h.
         found-follows (λ (c : ℕ). c) _ (iso_class e.ty) (iso_class e.ty) Mismatch _ _ (λ c g. g) (λ c g.
         test-follows _ (is_ready e.readiness) (is_ready e.readiness) Unavailable _ _ refl (λ a.
-        passes-follows _ (negated (visible env (Some z))) (negated (visible (env_again m env) (Some (variable_name (length ss))))) Duplicate _ _ is-new
+        passes-follows _ (negated (visible env (Some z)))
+        (negated (visible (env_again m env) (Some (variable_name (length ss))))) Duplicate _ _ is-new
         (ok-follows _ _ _
         (ap (λ (o : Env). with_variable (deeper o) (Some (variable_name (length ss))) (Ref Mut c) true) (marked-again m env ss s x lent)
         ∙ inside-again (marked x lent env) z c (length-map env.entries (marked_entry x lent) ∙ long m env ss s))))))
@@ -194,7 +202,8 @@ module _ (cs : List Class) (few : AreFew cs) (m : Truth) where
     enter-field x f fs z =
         bind-follows (λ (t : Ty). t) _ _ _ _ _ (writable-follows cs few m env ss s x f fs) (λ t is.
         found-follows (λ (c : ℕ). c) _ (iso_class t) (iso_class t) Mismatch _ _ (λ c g. g) (λ c g.
-        passes-follows _ (negated (visible env (Some z))) (negated (visible (env_again m env) (Some (variable_name (length ss))))) Duplicate _ _ is-new
+        passes-follows _ (negated (visible env (Some z)))
+        (negated (visible (env_again m env) (Some (variable_name (length ss))))) Duplicate _ _ is-new
         (ok-follows _ _ _ (inside-again env z c (long m env ss s)))))
 
     pub enter-absent : (x : Variable) (fs : List Name) (z : Name) (out : Env) → judge_enter cs env x fs z ≡ Ok out → Absent (Some z) env.entries

@@ -1,5 +1,6 @@
 -- An accepted program is accepted with numbers for names, and its module is the same.
-use Rattle.std.proofs.Common.{◌≡◌, refl, sym, ap, ◌∙◌, subst, ℕ, zero, suc, ◌+◌, ◌<◌, ◌≤◌, ◌^◌, Bool as Truth, true, false, List, [], ◌∷◌, ◌++◌, length}
+use Rattle.std.proofs.Common.{◌≡◌, refl, sym, ap, ◌∙◌, subst, ℕ, zero, suc, ◌+◌, ◌<◌, ◌≤◌, ◌^◌, Bool as Truth, true, false, List, [], ◌∷◌, ◌++◌}
+use Rattle.std.proofs.Common.{length}
 use Rattle.std.proofs.Common.{map, filter_map, All, Option, Some, None, option_map, Result, Ok, arith}
 use Rattle.std.specs.List.{AllByRecursion}
 use Rattle.std.specs.Result.{result_err}
@@ -113,7 +114,8 @@ opening-again cs c d None = words-again cs 0 d.members _ (no-words cs c 0 (filte
 opening-again cs c d (Some t) = ap (λ (w : Word). w ∷ []) (word-again cs t)
 
 openings-again : (cs : List Class) (k : ℕ) (ds : List Class) →
-    map (λ (d : Class). opening_of d.element d.members) (renamed_from (renamed_class cs) k ds) ≡ map (λ (d : Class). opening_of d.element d.members) ds
+    map (λ (d : Class). opening_of d.element d.members) (renamed_from (renamed_class cs) k ds)
+    ≡ map (λ (d : Class). opening_of d.element d.members) ds
 openings-again cs k [] = refl
 openings-again cs k (d ∷ ds) =
     ap (λ (ws : List Word). ws ∷ map (λ (q : Class). opening_of q.element q.members) (renamed_from (renamed_class cs) (suc k) ds))
@@ -246,7 +248,8 @@ module _ (cs : List Class) (few : AreFew cs) where
       (method-maps-again cs few c k m h.0.fine)
       ∙ ap (λ (xs : List (List Ty)). method_maps cs c m ++ xs) (member-maps d c (suc k) ms h.1)
 
-  classes-maps : (c : ℕ) (ds : List Class) → ClassesFine cs few c ds → methods_maps again c (renamed_from (renamed_class cs) c ds) ≡ methods_maps cs c ds
+  classes-maps : (c : ℕ) (ds : List Class) → ClassesFine cs few c ds →
+      methods_maps again c (renamed_from (renamed_class cs) c ds) ≡ methods_maps cs c ds
   classes-maps c [] h = refl
   classes-maps c (d ∷ ds) h =
       ap (λ (xs : List (List Ty)). xs ++ methods_maps again (suc c) (renamed_from (renamed_class cs) (suc c) ds))

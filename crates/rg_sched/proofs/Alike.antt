@@ -166,7 +166,8 @@ alike_to classes s one other p q (suc k) =
     by None there same = same
     by (Some b) there same =
         let over : is_over (run_of classes b (contents_at first.contents b.cowns) (slice_index other k)).ending ≡ true =
-        subst (λ (t : Told). is_over (run_of classes b (contents_at t.contents b.cowns) (slice_index other k)).ending ≡ true) (sym same) (q k b there) in
+        subst (λ (t : Told). is_over (run_of classes b (contents_at t.contents b.cowns) (slice_index other k)).ending ≡ true) (sym same)
+        (q k b there) in
         ap (λ r. tell classes k b r first)
         (runs_over classes b (contents_at first.contents b.cowns) (slice_index one k) (slice_index other k) (p k b there) over)
         ∙ ap (do_one classes k (slice_index other k) (Some b)) same

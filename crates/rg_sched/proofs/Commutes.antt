@@ -125,13 +125,15 @@ pub do_all-length : (classes : List Class) (bs : List Behaviour) (is steps : Lis
     length (do_all classes bs is steps t).runs ≡ length t.runs
 do_all-length classes bs [] steps t = refl
 do_all-length classes bs (i ∷ is) steps t =
-    do_all-length classes bs is steps (do_one classes i (slice_index steps i) (slice_get bs i) t) ∙ do_one-length classes i (slice_index steps i) (slice_get bs i) t
+    do_all-length classes bs is steps (do_one classes i (slice_index steps i) (slice_get bs i) t)
+    ∙ do_one-length classes i (slice_index steps i) (slice_get bs i) t
 
 -- what is told of a behaviour that isn't among these stays
 pub do_one-other : (classes : List Class) (i k n : ℕ) (o : Option Behaviour) (t : Told) → i ≢ k →
     get_or (do_one classes i n o t).runs k None ≡ get_or t.runs k None
 do_one-other classes i k n None t differ = refl
-do_one-other classes i k n (Some b) t differ = get_or-set_other t.runs i k (Some (run_of classes b (contents_at t.contents b.cowns) n)) None (λ e. differ (sym e))
+do_one-other classes i k n (Some b) t differ =
+    get_or-set_other t.runs i k (Some (run_of classes b (contents_at t.contents b.cowns) n)) None (λ e. differ (sym e))
 
 pub do_all-other : (classes : List Class) (bs : List Behaviour) (is steps : List ℕ) (k : ℕ) (t : Told) → (In is k → ⊥)
     → get_or (do_all classes bs is steps t).runs k None ≡ get_or t.runs k None

@@ -39,7 +39,8 @@ Goes w i u = (u.began ≡ w.began ++ i ∷ []) ⊎ (u.turns ≡ set w.turns i (s
 
 pub goes_on : (classes : List Class) (s : Setting) (w : World) (i : ℕ) → i < length s.behaviours → has_ended (get_or w.told.runs i None) ≡ false
     → ((k : ℕ) → k < i → has_ended (get_or w.told.runs k None) ≡ true)
-    → ((event classes s.behaviours i w).began ≡ w.began ++ i ∷ []) ⊎ ((event classes s.behaviours i w).turns ≡ set w.turns i (suc (slice_index w.turns i)))
+    → ((event classes s.behaviours i w).began ≡ w.began ++ i ∷ [])
+    ⊎ ((event classes s.behaviours i w).turns ≡ set w.turns i (suc (slice_index w.turns i)))
 goes_on classes s w i l on lower = by (slice_get s.behaviours i) (get_or w.told.runs i None) refl refl
   where
     if_may : (t : Bool) (b : Behaviour) → t ≡ true → Goes w i (if t then begins classes i b w else w)

@@ -83,7 +83,8 @@ get_set (y ∷ ys) (suc i) x d l = get_set ys i x d (omega (arith, l))
 put_set : (ns : List ℕ) (xs cs : List Content) (a : ℕ) (y : Content) → (In ns a → ⊥) → put ns xs (set cs a y) ≡ set (put ns xs cs) a y
 put_set [] xs cs a y out = refl
 put_set (n ∷ ns) xs cs a y out =
-    ap (put ns (rest_of xs)) (set_apart cs a n y (first_of xs) (λ e. out (inl e))) ∙ put_set ns (rest_of xs) (set cs n (first_of xs)) a y (λ m. out (inr m))
+    ap (put ns (rest_of xs)) (set_apart cs a n y (first_of xs) (λ e. out (inl e)))
+    ∙ put_set ns (rest_of xs) (set cs n (first_of xs)) a y (λ m. out (inr m))
 
 -- contents of different cowns may be put in either order
 pub put_put : (ns ms : List ℕ) (xs ys cs : List Content) → Apart ns ms → put ns xs (put ms ys cs) ≡ put ms ys (put ns xs cs)

@@ -36,7 +36,8 @@ pub share_none : (bs : List Behaviour) (i j : ℕ) → (share bs i j ≡ true �
 share_none bs i j h b d p q n x y = h (shares bs i j b d p q n y x)
 
 swap : (classes : List Class) (bs : List Behaviour) (i j m n : ℕ) (t : Told) → i ≢ j → ShareNone bs i j
-    → do_one classes j n (slice_get bs j) (do_one classes i m (slice_get bs i) t) ≡ do_one classes i m (slice_get bs i) (do_one classes j n (slice_get bs j) t)
+    → do_one classes j n (slice_get bs j) (do_one classes i m (slice_get bs i) t)
+    ≡ do_one classes i m (slice_get bs i) (do_one classes j n (slice_get bs j) t)
 swap classes bs i j m n t differ none = by (slice_get bs i) (slice_get bs j) none
   where
     by : (o p : Option Behaviour) → ((b d : Behaviour) → o ≡ Some b → p ≡ Some d → Apart d.cowns b.cowns)

@@ -52,7 +52,8 @@ put-there : (P : Content → Type 0) (ns : List ℕ) (xs cs : List Content) (m :
     P (get_or (put ns xs cs) m Empty)
 put-there P [] xs cs m h a l = absurd a
 put-there P (n ∷ ns) xs cs m h a l =
-    by (in_or_not ns m) a (λ b. put-there P ns (rest_of xs) (set cs n (first_of xs)) m (rest-put P xs h) b (subst (λ k. m < k) (sym (length-set cs n (first_of xs))) l))
+    by (in_or_not ns m) a
+    (λ b. put-there P ns (rest_of xs) (set cs n (first_of xs)) m (rest-put P xs h) b (subst (λ k. m < k) (sym (length-set cs n (first_of xs))) l))
   where
     here : m ≡ n → (In ns m → ⊥) → P (get_or (put ns (rest_of xs) (set cs n (first_of xs))) m Empty)
     here e out =
@@ -238,7 +239,8 @@ event-rests classes s w i twice h rests = by (slice_get s.behaviours i) (get_or 
     if_may : (t : Bool) (b : Behaviour) → slice_get s.behaviours i ≡ Some b → get_or w.told.runs i None ≡ None
         → Stands classes s (if t then begins classes i b w else w) → Rests s (if t then begins classes i b w else w)
     if_may true b there none g =
-        tell-rests classes s w (begins classes i b w) i b (run_of classes b (contents_at w.told.contents b.cowns) 0) h g there (ap has_ended none) refl rests
+        tell-rests classes s w (begins classes i b w) i b (run_of classes b (contents_at w.told.contents b.cowns) 0) h g there
+        (ap has_ended none) refl rests
     if_may false b there none g = rests
 
     if_runs : (e : Ending) (b : Behaviour) (r : Ran) → r.ending ≡ e → slice_get s.behaviours i ≡ Some b → get_or w.told.runs i None ≡ Some r

@@ -190,7 +190,8 @@ pub ended-begun : (classes : List Class) (s : Setting) (w : World) (k : ℕ) →
 ended-begun classes s w k h e = by (get_or w.told.runs k None) refl
   where
     by : (o : Option Ran) → get_or w.told.runs k None ≡ o → In w.began k
-    by None is = let f : has_ended (get_or w.told.runs k None) ≡ false = ap has_ended is in absurd (not_two (has_ended (get_or w.told.runs k None)) e f)
+    by None is = let f : has_ended (get_or w.told.runs k None) ≡ false = ap has_ended is
+        in absurd (not_two (has_ended (get_or w.told.runs k None)) e f)
     by (Some r) is = has_begun classes s w k r h is
 
 -- A behaviour begins
@@ -276,7 +277,8 @@ step-keeps : (classes : List Class) (s : Setting) (w : World) (i : ℕ) (b : Beh
 step-keeps classes s w i b r twice h there told over = record {
   world = record {
     told = ap (λ (z : Ran). tell classes i b z w.told) more
-        ∙ ap (tell classes i b (run_at classes bs p.front w.turns b (suc n) first)) (h.world.told ∙ ap (λ order. do_all classes bs order w.turns first) p.is)
+        ∙ ap (tell classes i b (run_at classes bs p.front w.turns b (suc n) first))
+        (h.world.told ∙ ap (λ order. do_all classes bs order w.turns first) p.is)
         ∙ sym (other_steps classes bs p.front p.back w.turns i (suc n) b first there own l (not_in_front p.front p.back i dist) past clear)
         ∙ ap (λ order. do_all classes bs order (set w.turns i (suc n)) first) (sym p.is);
     once = h.world.once;
@@ -330,7 +332,8 @@ step-keeps classes s w i b r twice h there told over = record {
 
     stays : (k : ℕ) → has_ended (get_or w.told.runs k None) ≡ true → has_ended (get_or (set w.told.runs i (Some (one_more classes r))) k None) ≡ true
     stays k e =
-        let differ : k ≢ i = λ (q : k ≡ i). not_two (has_ended (get_or w.told.runs k None)) e (ap (λ m. has_ended (get_or w.told.runs m None)) q ∙ runs) in
+        let differ : k ≢ i =
+        λ (q : k ≡ i). not_two (has_ended (get_or w.told.runs k None)) e (ap (λ m. has_ended (get_or w.told.runs m None)) q ∙ runs) in
         ap has_ended (get_or-set_other w.told.runs i k (Some (one_more classes r)) None differ) ∙ e
 
 -- Each event keeps it
@@ -339,7 +342,8 @@ pub event-keeps : (classes : List Class) (s : Setting) (w : World) (i : ℕ) →
     Stands classes s (event classes s.behaviours i w)
 event-keeps classes s w i twice h = by (slice_get s.behaviours i) (get_or w.told.runs i None) refl refl
   where
-    if_may : (t : Bool) (b : Behaviour) → may_begin s.behaviours w.told.runs i ≡ t → slice_get s.behaviours i ≡ Some b → get_or w.told.runs i None ≡ None
+    if_may : (t : Bool) (b : Behaviour) → may_begin s.behaviours w.told.runs i ≡ t → slice_get s.behaviours i ≡ Some b →
+        get_or w.told.runs i None ≡ None
         → Stands classes s (if t then begins classes i b w else w)
     if_may true b may there none = begin-keeps classes s w i b h there none may
     if_may false b may there none = h

@@ -1,5 +1,6 @@
 -- Values and contents for the fields of a class, one after another.
-use Rattle.std.proofs.Common.{◌≡◌, ℕ, ◌+◌, ◌<◌, true, false, Bool, List, [], ◌∷◌, ◌++◌, length, map, filter_map, drop, get_or, Option, Some, None, slice_get}
+use Rattle.std.proofs.Common.{◌≡◌, ℕ, ◌+◌, ◌<◌, true, false, Bool, List, [], ◌∷◌, ◌++◌, length, map, filter_map, drop, get_or, Option, Some, None}
+use Rattle.std.proofs.Common.{slice_get}
 use Rattle.std.proofs.Common.{append_assoc, refl, sym, ap, ◌∙◌}
 use Rattle.std.specs.Prelude.{if◌then◌else◌}
 use Rattle.std.proofs.lemmas.List.{drop_more, map-append}
@@ -32,13 +33,15 @@ pub givens-iso : (f : Field) (fs : List Field) (cs : List Content) (gs : List Gi
     → (gs ++ given_of (first_of cs) ∷ []) ++ givens fs (rest_of cs) ≡ gs ++ givens (f ∷ fs) cs
 givens-iso f fs cs gs iso =
     append_assoc gs (given_of (first_of cs) ∷ []) (givens fs (rest_of cs))
-    ∙ ap (λ (z : Bool). gs ++ (if z then given_of (first_of cs) else given.Start (opening_value f.ty)) ∷ givens fs (if z then rest_of cs else cs)) (sym iso)
+    ∙ ap (λ (z : Bool). gs ++ (if z then given_of (first_of cs) else given.Start (opening_value f.ty)) ∷ givens fs (if z then rest_of cs else cs))
+    (sym iso)
 
 pub givens-other : (f : Field) (fs : List Field) (cs : List Content) (gs : List Given) → is_iso_written f.ty ≡ false
     → (gs ++ given.Start (opening_value f.ty) ∷ []) ++ givens fs cs ≡ gs ++ givens (f ∷ fs) cs
 givens-other f fs cs gs other =
     append_assoc gs (given.Start (opening_value f.ty) ∷ []) (givens fs cs)
-    ∙ ap (λ (z : Bool). gs ++ (if z then given_of (first_of cs) else given.Start (opening_value f.ty)) ∷ givens fs (if z then rest_of cs else cs)) (sym other)
+    ∙ ap (λ (z : Bool). gs ++ (if z then given_of (first_of cs) else given.Start (opening_value f.ty)) ∷ givens fs (if z then rest_of cs else cs))
+    (sym other)
 
 -- the members of a class, one after another: those that are left, where the first is a field, and where it is a method
 abbrev Members : Tables → List ℕ → ℕ → List Field
@@ -70,7 +73,8 @@ first-next left new None h =
 first-next left new (Some x) h = (ap (λ z. given_of (first_of (map content_in z))) h, ap (λ z. rest_of (map content_in z)) h)
 
 pub given-iso : (before fs : List Field) (f : Field) (gs all new : List Given) (left next : List Slot) (o : Option Slot) (g : Given)
-    → before ≡ f ∷ fs → gs ++ givens before (map content_in left) ≡ all → is_iso_written f.ty ≡ true → Next left o next → g ≡ first_given o → new ≡ gs ++ g ∷ []
+    → before ≡ f ∷ fs → gs ++ givens before (map content_in left) ≡ all → is_iso_written f.ty ≡ true → Next left o next → g ≡ first_given o →
+    new ≡ gs ++ g ∷ []
     → new ++ givens fs (map content_in next) ≡ all
 given-iso before fs f gs all new left next o g first h iso step is more =
     let p = first-next left next o step in
@@ -80,7 +84,8 @@ given-iso before fs f gs all new left next o g first h iso step is more =
     ∙ givens-iso f fs (map content_in left) gs iso ∙ ap (λ z. gs ++ givens z (map content_in left)) (sym first) ∙ h
 
 pub given-other : (before fs : List Field) (f : Field) (gs all new : List Given) (left : List Slot) (g : Given)
-    → before ≡ f ∷ fs → gs ++ givens before (map content_in left) ≡ all → is_iso_written f.ty ≡ false → g ≡ given.Start (opening_value f.ty) → new ≡ gs ++ g ∷ []
+    → before ≡ f ∷ fs → gs ++ givens before (map content_in left) ≡ all → is_iso_written f.ty ≡ false → g ≡ given.Start (opening_value f.ty) →
+    new ≡ gs ++ g ∷ []
     → new ++ givens fs (map content_in left) ≡ all
 given-other before fs f gs all new left g first h other is more =
     ap (λ z. z ++ givens fs (map content_in left)) (more ∙ ap (λ z. gs ++ z ∷ []) is) ∙ givens-other f fs (map content_in left) gs other

@@ -1,5 +1,6 @@
 -- Contents that are taken from cowns, and put there, one after another.
-use Rattle.std.proofs.Common.{◌≡◌, ℕ, zero, suc, ◌+◌, ◌<◌, inl, inr, List, [], ◌∷◌, ◌++◌, length, get_or, set, map, drop, append_assoc, Option, Some, None, unwrap_or, All, refl, sym, ap, ◌∙◌, subst, arith}
+use Rattle.std.proofs.Common.{◌≡◌, ℕ, zero, suc, ◌+◌, ◌<◌, inl, inr, List, [], ◌∷◌, ◌++◌, length, get_or, set, map, drop, append_assoc, Option, Some}
+use Rattle.std.proofs.Common.{None, unwrap_or, All, refl, sym, ap, ◌∙◌, subst, arith}
 use Rattle.std.specs.declared.vec.IntoIter.{IntoIter}
 use Rattle.std.specs.Vec.Iter.{into_iter_items, into_iter_len, into_iter_steps}
 use Rattle.std.proofs.lemmas.List.{drop_more, get_or-set_other, length-set, map-set, map-append}
@@ -31,7 +32,8 @@ pub record Taken (cowns : List ℕ) (all : List Content) (rest : List ℕ) (take
 pub take-next : (cowns : List ℕ) (all : List Content) (n : ℕ) (ns : List ℕ) (taken slots : List Slot) (d : Slot) → n < length slots
     → Taken cowns all (n ∷ ns) taken slots → Taken cowns all ns (taken ++ get_or slots n d ∷ []) (set slots n slot.Away)
 take-next cowns all n ns taken slots d l h = record {
-  taken_are = ap (λ z. map content_in (taken ++ x ∷ []) ++ z) (ap (λ cs. contents_at cs ns) written ∙ at-other ns (map content_in slots) n Away h.distinct.0)
+  taken_are =
+      ap (λ z. map content_in (taken ++ x ∷ []) ++ z) (ap (λ cs. contents_at cs ns) written ∙ at-other ns (map content_in slots) n Away h.distinct.0)
       ∙ ap (λ z. z ++ contents_at (map content_in slots) ns) (map-append content_in taken (x ∷ []))
       ∙ append_assoc (map content_in taken) (content_in x ∷ []) (contents_at (map content_in slots) ns)
       ∙ ap (λ z. map content_in taken ++ z ∷ contents_at (map content_in slots) ns) (sym (at-map slots n d l))
@@ -94,14 +96,16 @@ pub next-is : {X Z : Type 0} → (s t : IntoIter X Z) (o : Option X) → into_it
 next-is s t None p q h = (empty-is (into_iter_items s) (sym p ∙ h.0), empty-is (into_iter_items t) (sym q ∙ h.1))
 next-is s t (Some x) p q h = h.0
 
-pub put-step : (cowns : List ℕ) (all : List Slot) (old : List Content) (k : ℕ) (left new slots : List Slot) (o : Option Slot) (y : Slot) → k < length cowns
+pub put-step : (cowns : List ℕ) (all : List Slot) (old : List Content) (k : ℕ) (left new slots : List Slot) (o : Option Slot) (y : Slot) →
+    k < length cowns
     → Put cowns all old (drop k cowns) left slots → Next left o new → y ≡ unwrap_or o slot.Empty
     → Put cowns all old (drop (k + 1) cowns) new (set slots (get_or cowns k 0) y)
 put-step cowns all old k left new slots None y l h next is =
     let n = get_or cowns k 0 in
     let first = subst (λ z. Put cowns all old z left slots) (drop_more cowns k 0 l) h in
     let none = subst (λ z. Put cowns all old (n ∷ drop (k + 1) cowns) z slots) next.0 first in
-    let one = subst (λ z. Put cowns all old (drop (k + 1) cowns) z (set slots n slot.Empty)) (sym next.1) (put-none cowns all old n (drop (k + 1) cowns) slots none) in
+    let one = subst (λ z. Put cowns all old (drop (k + 1) cowns) z (set slots n slot.Empty)) (sym next.1)
+    (put-none cowns all old n (drop (k + 1) cowns) slots none) in
     subst (λ z. Put cowns all old (drop (k + 1) cowns) new (set slots n z)) (sym is) one
 put-step cowns all old k left new slots (Some x) y l h next is =
     let n = get_or cowns k 0 in

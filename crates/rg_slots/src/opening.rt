@@ -27,7 +27,8 @@ impl Slots {
         plan: &Plan,
         images: Vec<Cargo>,
     ) -> Result<Slots, Memory>
-        requires { All (λ (c : CownOf). c.class < length (classes_of book.now.program)) plan.now.cowns }
+        requires { All
+            (λ (c : CownOf). c.class < length (classes_of book.now.program)) plan.now.cowns }
         ensures { IfOk result (λ slots. slots ≡ map held
             (start_contents (classes_of book.now.program) plan.now.cowns images.items)) }
     {

@@ -33,7 +33,8 @@ use Rattle.rg_verify.specs.Standing.{BlockStand, TellsBlock, BlocksAreTold}
 use Rattle.rg_verify.proofs.Pieces.{bind-some, then-some, test-some, end-is, piece-is, target_op}
 use Rattle.rg_verify.proofs.BlockRaises.{ended-piece, kind-piece, starts-marked, block-piece, raised-blocks-stand}
 use Rattle.rg_verify.proofs.RightsAgain.{fronts_of, call-reached}
-use Rattle.rg_verify.proofs.KindsAgain.{Told_as, Stands, from-mark, slot-reached, write-reached, element-reached, call-parts, test-told, enter-reached}
+use Rattle.rg_verify.proofs.KindsAgain.{Told_as, Stands, from-mark, slot-reached, write-reached, element-reached, call-parts, test-told}
+use Rattle.rg_verify.proofs.KindsAgain.{enter-reached}
 use Rattle.rg_verify.proofs.KindsAgain.{field-reached, behind_field}
 use Rattle.rg_verify.proofs.BlocksAgain.{standing-blocks-are-told}
 

@@ -24,13 +24,15 @@ pub swap-requires-clause-width : goal.swap-requires-clause-width
 swap-requires-clause-width c =
     owner-width c.args.heap.now c.load.new.self c.args.frames.now c.args.object c.args.class c.args.given.now c.args.field c.in_ok-bridge.bridge
     c.in-Held.cargo c.requires.may (held (goal.at.swap-requires-clause-width c).After-is_forest) c.is_forest.ensures.serials
-    c.is_forest.ensures.forest c.requires.laid c.in_ok-bridge.ensures.loaded c.in_ok-bridge.ensures.bridge c.is_forest-2.ensures.serials c.is_forest-2.ensures.forest
+    c.is_forest.ensures.forest c.requires.laid c.in_ok-bridge.ensures.loaded c.in_ok-bridge.ensures.bridge c.is_forest-2.ensures.serials
+    c.is_forest-2.ensures.forest
 
 pub swap-requires-clause-place : goal.swap-requires-clause-place
 swap-requires-clause-place c =
     owner-place c.args.heap.now c.load.new.self c.args.frames.now c.args.object c.args.class c.args.given.now c.args.field c.in_ok-bridge.bridge
     c.in-Held.cargo c.requires.may (held (goal.at.swap-requires-clause-place c).After-is_forest) c.is_forest.ensures.serials
-    c.is_forest.ensures.forest c.requires.laid c.in_ok-bridge.ensures.loaded c.in_ok-bridge.ensures.bridge c.is_forest-2.ensures.serials c.is_forest-2.ensures.forest
+    c.is_forest.ensures.forest c.requires.laid c.in_ok-bridge.ensures.loaded c.in_ok-bridge.ensures.bridge c.is_forest-2.ensures.serials
+    c.is_forest-2.ensures.forest
 
 pub returns : goal.returns
 returns c =

@@ -28,9 +28,11 @@ use Rattle.rg_blocks.proofs.Exprs.{astray, jumped-made, jumped-goes, close-print
 use Rattle.rg_blocks.proofs.Exprs.{open-collect, kind-refused, kind-made}
 use Rattle.rg_raise.proofs.FrontRows.{none-left, some-left}
 use Rattle.rg_blocks.proofs.Firsts.{first-none, first-expression, first-object, first-place}
-use Rattle.rg_blocks.proofs.BlockRows.{otherwise-made, tested-made, tested-goes, window-made, window-closed, open-made, open-closed, field-made, field-closed}
+use Rattle.rg_blocks.proofs.BlockRows.{otherwise-made, tested-made, tested-goes, window-made, window-closed, open-made, open-closed, field-made}
+use Rattle.rg_blocks.proofs.BlockRows.{field-closed}
 use Rattle.rg_blocks.proofs.BlockRows.{field-unfound}
-use Rattle.rg_blocks.proofs.Turns.{turn-refused, turn-same, turn-more, turn-last, turn-smaller, statements-end, block-refused, block-made, shortened, under}
+use Rattle.rg_blocks.proofs.Turns.{turn-refused, turn-same, turn-more, turn-last, turn-smaller, statements-end, block-refused, block-made, shortened}
+use Rattle.rg_blocks.proofs.Turns.{under}
 use Rattle.rg_blocks.proofs.blocks.+block.Goals as goal
 
 -- an `if` and a loop
@@ -51,7 +53,8 @@ tested-returns-then-fails-end-clause-told b c e is =
     let g = given c.args.source.now in
     let n : c.len-slots.result ≡ length c.args.types.now.items = omega (arith, c.len-slots.ensures) in
     let ends = rw (c.code.ensures, n) at c.in-Some.ensures in
-    tested-made m g (block_told g c.args.depth) c.args.types.now.items c.args.line c.args.start c.args.program.now c.raise_inner.new.program c.args.test e
+    tested-made m g
+    (block_told g c.args.depth) c.args.types.now.items c.args.line c.args.start c.args.program.now c.raise_inner.new.program c.args.test e
     c.in_ok-yes.yes c.args.fails c.args.at c.in_ok-yes.behind c.in-Some.end is c.in_ok-yes.ensures.told (sym ends) c.if-fails-end.true
 
 pub tested-returns-clause-told : goal.tested-returns-clause-told
@@ -63,7 +66,8 @@ tested-returns-clause-told b c e is =
     let ends = rw (c.code.ensures, n) at c.in-Some.ensures in
     let goes = rw c.in_ok-yes.ensures.types at c.jumped.ensures.told in
     tested-goes m g (block_told g c.args.depth) c.args.types.now.items c.args.line c.args.start t c.raise_inner.new.program c.args.test e
-    c.in_ok-yes.yes c.args.fails c.args.at c.in_ok-yes.behind c.in-Some.end is c.in_ok-yes.ensures.told (sym ends) c.jumped.new.program c.jumped.result
+    c.in_ok-yes.yes c.args.fails c.args.at c.in_ok-yes.behind c.in-Some.end is c.in_ok-yes.ensures.told
+    (sym ends) c.jumped.new.program c.jumped.result
     (astray c.args.fails c.in-Some.end (λ z. let other = c.if-fails-end.false in grind (arith, nat_tests))) (goes e)
 
 pub tested-returns-clause-types : goal.tested-returns-clause-types
@@ -141,30 +145,36 @@ pub window-returns-then-bridge-slots-clause-told : goal.window-returns-then-brid
 window-returns-then-bridge-slots-clause-told b c =
     let g = given c.args.source.now in
     window-astray g (block_told g c.args.depth) c.args.types.now.items c.args.line c.args.bridge c.args.at
-    (astray c.args.bridge (length c.args.types.now.items) (λ z. let other = c.if-bridge-slots.true in let n = c.len-slots.ensures in grind (arith, nat_tests)))
+    (astray c.args.bridge (length c.args.types.now.items)
+    (λ z. let other = c.if-bridge-slots.true in let n = c.len-slots.ensures in grind (arith, nat_tests)))
 
 pub window-returns-in_default-clause-told : goal.window-returns-in_default-clause-told
 window-returns-in_default-clause-told b c =
     let g = given c.args.source.now in
-    let next : c.args.bridge ≡ length c.args.types.now.items = let z = c.if-bridge-slots.false in let n = c.len-slots.ensures in grind (arith, nat_tests) in
+    let next : c.args.bridge ≡ length c.args.types.now.items = let z = c.if-bridge-slots.false in let n = c.len-slots.ensures
+    in grind (arith, nat_tests) in
     window-untyped g (block_told g c.args.depth) c.args.types.now.items c.args.line c.args.bridge c.args.at next (sym c.in_default.ensures)
 
 pub window-returns-in_default-bridge_class-clause-told : goal.window-returns-in_default-bridge_class-clause-told
 window-returns-in_default-bridge_class-clause-told b c =
     let g = given c.args.source.now in
-    let next : c.args.bridge ≡ length c.args.types.now.items = let z = c.if-bridge-slots.false in let n = c.len-slots.ensures in grind (arith, nat_tests) in
-    window-classless g (block_told g c.args.depth) c.args.types.now.items c.args.line c.args.bridge c.args.at next c.in-Some.ty (sym c.in-Some.ensures)
+    let next : c.args.bridge ≡ length c.args.types.now.items = let z = c.if-bridge-slots.false in let n = c.len-slots.ensures
+    in grind (arith, nat_tests) in
+    window-classless g (block_told g c.args.depth) c.args.types.now.items c.args.line c.args.bridge c.args.at next c.in-Some.ty
+    (sym c.in-Some.ensures)
     (sym c.in_default-bridge_class.ensures)
 
 pub window-returns-in_err-block-clause-told : goal.window-returns-in_err-block-clause-told
 window-returns-in_err-block-clause-told b c =
     let p = err_from_is_err_and c.from_residual.result c.from_residual.ensures.1 in
     let g = given c.args.source.now in
-    let next : c.args.bridge ≡ length c.args.types.now.items = let z = c.if-bridge-slots.false in let n = c.len-slots.ensures in grind (arith, nat_tests) in
+    let next : c.args.bridge ≡ length c.args.types.now.items = let z = c.if-bridge-slots.false in let n = c.len-slots.ensures
+    in grind (arith, nat_tests) in
     let made = subst (λ (ts : List Ty). MakesAs (IsBlockSaid c.args.source.now.body.in_method (length ts)) c.args.program.now
     c.raise_inner.new.program (block_told g c.args.depth ts c.args.at) (Err c.in_err-block.field-0.0)) c.in-Ok.ensures.items
     c.in_err-block.ensures.told in
-    rw (p.1, p.2) (window-closed c.args.source.now.body.in_method g (block_told g c.args.depth) c.args.types.now.items c.args.line c.args.bridge c.args.at next
+    rw (p.1, p.2)
+    (window-closed c.args.source.now.body.in_method g (block_told g c.args.depth) c.args.types.now.items c.args.line c.args.bridge c.args.at next
     c.in-Some.ty (sym c.in-Some.ensures) c.in-Some-bridge_class.class (sym c.in-Some-bridge_class.ensures) c.args.program.now
     c.raise_inner.new.program c.in_err-block.field-0.0 made)
 
@@ -173,7 +183,8 @@ window-returns-clause-told b c =
     let g = given c.args.source.now in
     let n : c.len-slots.result ≡ length c.args.types.now.items = omega (arith, c.len-slots.ensures) in
     let ends = rw (c.code.ensures, n) at c.in-Some-behind_leave.ensures in
-    let next : c.args.bridge ≡ length c.args.types.now.items = let z = c.if-bridge-slots.false in let n = c.len-slots.ensures in grind (arith, nat_tests) in
+    let next : c.args.bridge ≡ length c.args.types.now.items = let z = c.if-bridge-slots.false in let n = c.len-slots.ensures
+    in grind (arith, nat_tests) in
     let made = rw c.in-Ok.ensures.items at c.in_ok-block.ensures.told in
     window-made c.args.source.now.body.in_method g (block_told g c.args.depth) c.args.types.now.items c.args.line c.args.bridge c.args.at
     next c.in-Some.ty (sym c.in-Some.ensures) c.in-Some-bridge_class.class (sym c.in-Some-bridge_class.ensures)
@@ -204,7 +215,8 @@ field_entered-returns-in_err-inside-clause-told b c e is =
     let m = c.args.source.now.body.in_method in
     let g = given c.args.source.now in
     let (q, found, path) = finds-path t m (path_in e) c.in-Some.path (c.in-Some.ensures e is) in
-    rw (p.1, p.2) (field-closed m g (block_told g c.args.depth) c.args.types.now.items c.args.line c.args.start e c.args.index c.args.bridge c.args.at q found
+    rw (p.1, p.2)
+    (field-closed m g (block_told g c.args.depth) c.args.types.now.items c.args.line c.args.start e c.args.index c.args.bridge c.args.at q found
     t c.window.new.program c.in_err-inside.field-0.0 c.in_err-inside.ensures.told)
 
 pub field_entered-longer_path-requires : goal.field_entered-longer_path-requires
@@ -361,7 +373,8 @@ kind_by-returns-in_default-clause-told b c fs is =
     let types = c.args.types.now.items in
     let none = first-none t m g.ops c.args.fronts fs (subst (TakesFirst t m g.ops c.args.fronts fs) c.in_default.is is) in
     subst (λ (ys : List Front). MakesAs (IsKindSaid m (length types)) t c.open_by.new.program
-    (kind_by g (block_told g c.args.depth) types c.args.line c.args.start ys c.args.fronts.code.end) c.open_by.result) (sym none) c.open_by.ensures.told
+    (kind_by g (block_told g c.args.depth) types c.args.line c.args.start ys c.args.fronts.code.end) c.open_by.result)
+    (sym none) c.open_by.ensures.told
 
 pub kind_by-returns-then-len-ne0-clause-told : goal.kind_by-returns-then-len-ne0-clause-told
 kind_by-returns-then-len-ne0-clause-told b c fs is =

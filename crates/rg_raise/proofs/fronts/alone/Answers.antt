@@ -13,7 +13,8 @@ returns-in_default c =
     c.in_default.not-Expression
 
 pub returns : goal.returns
-returns c = alone-ends c.args.rows.now.items c.loop-at.at c.loop-at.found.items (omega (arith, c.loop-at-test.false, c.len.ensures)) c.loop-at.invariant
+returns c =
+    alone-ends c.args.rows.now.items c.loop-at.at c.loop-at.found.items (omega (arith, c.loop-at-test.false, c.len.ensures)) c.loop-at.invariant
 
 pub loop-at-preserved : goal.loop-at-preserved
 loop-at-preserved c =

@@ -5,7 +5,8 @@ use Rattle.rg_raise.proofs.fronts.raise_fronts.Goals as goal
 
 pub returns-then-from-len-clause-told : goal.returns-then-from-len-clause-told
 returns-then-from-len-clause-told c =
-    fronts-past c.args.program.now c.args.body.in_method c.args.code.now.ops c.args.from c.new-rows.result (omega (arith, c.if-from-len.true, c.len.ensures))
+    fronts-past c.args.program.now c.args.body.in_method c.args.code.now.ops c.args.from c.new-rows.result
+    (omega (arith, c.if-from-len.true, c.len.ensures))
     c.new-rows.ensures.items
 
 pub returns-in_err-rows-clause-told : goal.returns-in_err-rows-clause-told

@@ -42,7 +42,8 @@ returns-in-Err-NotRaised-clause-told c s ks fs path left =
     let types = c.args.types.now.items in
     let end = c.args.fronts.code.end in
     let none : values_in fs ≡ None =
-    subst (λ (e : Refusal). FindsExprs t m g.ops c.args.fronts fs (Err e)) c.in-Err-NotRaised.field-0-is (c.in-Err-NotRaised.ensures t m g.ops fs left) in
+    subst (λ (e : Refusal). FindsExprs t m g.ops c.args.fronts fs (Err e)) c.in-Err-NotRaised.field-0-is
+    (c.in-Err-NotRaised.ensures t m g.ops fs left) in
     subst (λ (o : Told Kind). MakesAs (IsKindSaid m (length types)) t c.written_to.new.program o c.written_to.result)
     (sym (room-written g types s ks fs (values_in fs) end none)) (c.written_to.ensures.told s ks fs path left)
 

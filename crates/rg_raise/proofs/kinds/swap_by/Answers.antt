@@ -17,7 +17,8 @@ returns-then-len-ne0-clause-told c n s ks fs path rows =
 pub returns-clause-told : goal.returns-clause-told
 returns-clause-told c n s ks fs path rows =
     let zero : length c.args.fronts.now.rows.items ≡ 0 = let is = c.if-len-ne0.false in let n = c.len.ensures in grind (arith, nat_tests) in
-    swap-made c.args.program.now c.args.body.in_method c.args.fronts.now.rows.items s ks fs c.args.slot c.args.index c.args.fronts.now.code.end rows c.add_name.new.program
+    swap-made c.args.program.now c.args.body.in_method c.args.fronts.now.rows.items s ks fs c.args.slot c.args.index c.args.fronts.now.code.end rows
+    c.add_name.new.program
     c.longer_path.new.program n c.in-Ok.name c.in-Ok-longer_path.path zero c.in-Ok.ensures.adds
     (c.in-Ok-longer_path.ensures.adds s ks (means-later path c.in-Ok.ensures.adds.extends))
 

@@ -48,7 +48,8 @@ returns-in_default-behind_pace-clause-told c s ks fs path left =
     let pace = rw c.code-2.ensures at c.in_default-behind_pace.ensures in
     let (r, told, grown, said) = makes-some (IsRightSaid m) t c.right_behind.new.program (right_behind g types fs c.args.fronts.code.end)
     c.in_ok-right.right c.in_ok-right.behind (c.in_ok-right.ensures.told fs left) in
-    write-unpaced g types s ks fs c.args.fronts.code.end r c.in_ok-right.behind told c.in-Some.field (sym put) c.in_ok-right.right.paces said.1 (sym pace)
+    write-unpaced g types s ks fs c.args.fronts.code.end r c.in_ok-right.behind told c.in-Some.field (sym put) c.in_ok-right.right.paces said.1
+    (sym pace)
 
 pub returns-clause-told : goal.returns-clause-told
 returns-clause-told c s ks fs path left =

@@ -5,10 +5,12 @@ use Rattle.rg_raise.proofs.RightSides.{array-new, array-tmp, array-iso, array-un
 use Rattle.rg_raise.proofs.rights.array_row.Goals as goal
 
 pub returns-in_ok-name-in-New-clause-told : goal.returns-in_ok-name-in-New-clause-told
-returns-in_ok-name-in-New-clause-told c e tree = rw c.in-New.is (array-new c.args.body.in_method c.in-New.class e c.in_ok-name-in-New.ensures.adds tree)
+returns-in_ok-name-in-New-clause-told c e tree =
+    rw c.in-New.is (array-new c.args.body.in_method c.in-New.class e c.in_ok-name-in-New.ensures.adds tree)
 
 pub returns-in_ok-name-in-NewTmp-clause-told : goal.returns-in_ok-name-in-NewTmp-clause-told
-returns-in_ok-name-in-NewTmp-clause-told c e tree = rw c.in-NewTmp.is (array-tmp c.args.body.in_method c.in-NewTmp.class e c.in_ok-name-in-NewTmp.ensures.adds tree)
+returns-in_ok-name-in-NewTmp-clause-told c e tree =
+    rw c.in-NewTmp.is (array-tmp c.args.body.in_method c.in-NewTmp.class e c.in_ok-name-in-NewTmp.ensures.adds tree)
 
 pub returns-in_ok-name-in-NewIso-clause-told : goal.returns-in_ok-name-in-NewIso-clause-told
 returns-in_ok-name-in-NewIso-clause-told c e tree =

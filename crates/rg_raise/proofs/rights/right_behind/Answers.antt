@@ -67,6 +67,7 @@ returns-clause-told c fs left =
     let g = given c.args.source.now in
     let types = c.args.types.now.items in
     let end = c.args.fronts.code.end in
-    let (s, ks, e, xs, same) = taken-place t m c.take_front.new.rows.items fs c.in-Some-Place.field-0 c.in-Some-Place.field-0-0 c.in-Some-Place.field-0-1
+    let (s, ks, e, xs, same) =
+    taken-place t m c.take_front.new.rows.items fs c.in-Some-Place.field-0 c.in-Some-Place.field-0-0 c.in-Some-Place.field-0-1
     c.in-Some-Place.field-0-is (c.in-Some-Place.ensures t m fs left.rows) in
     ap (λ (ys : List Front). right_behind g types ys end) same

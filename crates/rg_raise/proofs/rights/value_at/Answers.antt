@@ -18,4 +18,5 @@ returns c e tree spans =
     let end = c.args.code.end in
     let types = c.args.types.now.items in
     let same = ap (λ (ss : List ℕ). cleared c.args.source.now.parts.now.code.ops ss end) (spans types) in
-    right-value (given c.args.source.now) types e end c.args.program.now c.args.source.now.body.in_method c.args.row c.in-Some.end (sym (clears ∙ same)) tree
+    right-value (given c.args.source.now) types e end c.args.program.now c.args.source.now.body.in_method c.args.row c.in-Some.end
+    (sym (clears ∙ same)) tree

@@ -11,7 +11,8 @@ longer-requires c =
 pub returns-clause-adds : goal.returns-clause-adds
 returns-clause-adds c s ks path =
     let e = c.in_ok-fields.ensures in
-    path-longer c.args.body.in_method s ks c.args.index path c.in_ok-name.ensures.adds (c.as_slice.ensures.value ∙ c.in_ok-names.ensures) e.keeps e.program e.span
+    path-longer c.args.body.in_method s ks c.args.index path c.in_ok-name.ensures.adds
+    (c.as_slice.ensures.value ∙ c.in_ok-names.ensures) e.keeps e.program e.span
 
 pub returns-clause-grows : goal.returns-clause-grows
 returns-clause-grows c =

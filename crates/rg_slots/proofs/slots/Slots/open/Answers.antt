@@ -16,7 +16,8 @@ loop-n-preserved c =
     opens-next classes c.args.plan.now.cowns c.loop-n.n cown (into_iter_items c.loop-n.rest) (into_iter_items c.next.new.self) c.in-Some.image
     c.match-cown.content c.loop-n.slots.items c.push.new.self.items _ c.cown-cown.ensures c.in-Some.ensures.items c.loop-n.invariant
     (elim c.match-cown.branch [
-      | in-New+in_ok-content-in-New w ↦ w.content-is ∙ w.in_ok-content-in-New.ensures ∙ ap (start_of classes cown.class c.in-Some.image) (sym w.in-New.is)
+      | in-New+in_ok-content-in-New w ↦ w.content-is ∙ w.in_ok-content-in-New.ensures
+          ∙ ap (start_of classes cown.class c.in-Some.image) (sym w.in-New.is)
       | in-Image w ↦ w.content-is ∙ ap (start_of classes cown.class c.in-Some.image) (sym w.in-Image.is)
     ])
     c.in-Ok.ensures.items
