@@ -95,8 +95,8 @@ exec_without_a_file = refl
 exec_of_a_word_with_a_dash : command (codes "exec" ∷ codes "-a" ∷ []) ≡ None
 exec_of_a_word_with_a_dash = refl
 
--- `when` has two files, and no options
-when_of_two_files : command (codes "when" ∷ codes "a" ∷ codes "p" ∷ []) ≡ Some (when (codes "a") (codes "p"))
+-- `when` has two files, and what is kept
+when_of_two_files : command (codes "when" ∷ codes "a" ∷ codes "p" ∷ []) ≡ Some (when (codes "a") (codes "p") None)
 when_of_two_files = refl
 
 when_without_a_plan : command (codes "when" ∷ codes "a" ∷ []) ≡ None
@@ -110,3 +110,55 @@ when_of_a_plan_with_a_dash = refl
 
 when_of_a_file_with_a_dash : command (codes "when" ∷ codes "-a" ∷ codes "p" ∷ []) ≡ None
 when_of_a_file_with_a_dash = refl
+
+-- `when a p`, and what stands behind it
+abbrev when_p : List (List ℕ) → List (List ℕ)
+when_p words = codes "when" ∷ codes "a" ∷ codes "p" ∷ words
+
+the_first_cown : command (when_p (codes "--keep" ∷ codes "0" ∷ [])) ≡ Some (when (codes "a") (codes "p") (Some 0))
+the_first_cown = refl
+
+the_greatest_cown : command (when_p (codes "--keep" ∷ codes "9999" ∷ [])) ≡ Some (when (codes "a") (codes "p") (Some 9999))
+the_greatest_cown = refl
+
+a_cown_of_four_digits : command (when_p (codes "--keep" ∷ codes "0012" ∷ [])) ≡ Some (when (codes "a") (codes "p") (Some 12))
+a_cown_of_four_digits = refl
+
+a_cown_of_five_digits : command (when_p (codes "--keep" ∷ codes "00001" ∷ [])) ≡ None
+a_cown_of_five_digits = refl
+
+a_greater_cown : command (when_p (codes "--keep" ∷ codes "10000" ∷ [])) ≡ None
+a_greater_cown = refl
+
+no_cown : command (when_p (codes "--keep" ∷ [])) ≡ None
+no_cown = refl
+
+an_empty_cown : command (when_p (codes "--keep" ∷ [] ∷ [])) ≡ None
+an_empty_cown = refl
+
+a_cown_that_is_no_number : command (when_p (codes "--keep" ∷ codes "-1" ∷ [])) ≡ None
+a_cown_that_is_no_number = refl
+
+a_cown_in_the_word_itself : command (when_p (codes "--keep=0" ∷ [])) ≡ None
+a_cown_in_the_word_itself = refl
+
+a_cown_given_twice : command (when_p (codes "--keep" ∷ codes "0" ∷ codes "--keep" ∷ codes "0" ∷ [])) ≡ None
+a_cown_given_twice = refl
+
+a_word_behind_a_cown : command (when_p (codes "--keep" ∷ codes "0" ∷ codes "1" ∷ [])) ≡ None
+a_word_behind_a_cown = refl
+
+a_cown_before_the_plan : command (codes "when" ∷ codes "a" ∷ codes "--keep" ∷ codes "0" ∷ codes "p" ∷ []) ≡ None
+a_cown_before_the_plan = refl
+
+a_cown_without_a_plan : command (codes "when" ∷ codes "a" ∷ codes "--keep" ∷ codes "0" ∷ []) ≡ None
+a_cown_without_a_plan = refl
+
+steps_of_when : command (when_p (codes "--steps" ∷ codes "5" ∷ [])) ≡ None
+steps_of_when = refl
+
+steps_behind_a_cown : command (when_p (codes "--keep" ∷ codes "0" ∷ codes "--steps" ∷ codes "5" ∷ [])) ≡ None
+steps_behind_a_cown = refl
+
+keep_of_run : command (run_a (codes "--keep" ∷ codes "0" ∷ [])) ≡ None
+keep_of_run = refl

@@ -29,6 +29,7 @@ PutLine (status.Refused f) line old new = ⊥
 PutLine status.Usage line old new = ⊥
 PutLine (status.Trap kind at) line old new = ⊥
 PutLine status.Spent line old new = ⊥
+PutLine (status.Away n) line old new = ⊥
 PutLine status.SourceFault line old new = ⊥
 PutLine status.InputFault line old new = ⊥
 PutLine status.OutputFault line old new = AppendsPart old new line

@@ -8,7 +8,7 @@ use Rattle.rg_base.specs.Pieces.{is_digit}
 use Rattle.rg_base.specs.Tokens.{value_of}
 use Rattle.rg_make.specs.declared.whole.TheConstants.{MOST_SIZE}
 use Rattle.rg_words.specs.declared.words.Options.{Options}
-use Rattle.rg_words.specs.declared.words.TheConstants.{MOST_EVERY, USUAL_EVERY}
+use Rattle.rg_words.specs.declared.words.TheConstants.{MOST_COWN, MOST_EVERY, USUAL_EVERY}
 use Rattle.rg_words.specs.declared.limits.TheConstants.{MOST_NUMBERS}
 
 -- the words as texts
@@ -33,8 +33,8 @@ pub data Command : Type 0 where
   bulk : (size : ℕ) → Command
   -- exec FILE --steps N --every N --report
   exec : (file : List ℕ) → (steps every : ℕ) → (report : Bool) → Command
-  -- when FILE PLAN
-  when : (file plan : List ℕ) → Command
+  -- when FILE PLAN --keep K
+  when : (file plan : List ℕ) → (keep : Option ℕ) → Command
 
 -- where a command's program comes from
 pub data Origin : Type 0 where
@@ -44,8 +44,8 @@ pub data Origin : Type 0 where
   generated : (size : ℕ) → Origin
   -- a file of that name has a module, which programs raise
   in_module : (file : List ℕ) → Origin
-  -- a file of that name has its source, and one of another name a plan for it
-  with_plan : (file plan : List ℕ) → Origin
+  -- a file of that name has its source, and one of another name a plan for it; the content of the cown of a number may be kept
+  with_plan : (file plan : List ℕ) → (keep : Option ℕ) → Origin
 
 -- where the program of a command comes from
 abbrev pub origin_of : Command → Origin
@@ -57,7 +57,7 @@ origin_of (code file) = in_file file
 origin_of (pack file) = in_file file
 origin_of (bulk size) = generated size
 origin_of (exec file steps every report) = in_module file
-origin_of (when file plan) = with_plan file plan
+origin_of (when file plan keep) = with_plan file plan keep
 
 -- the most steps that a command asks for; `bulk` asks for as many as there can be, `when` for as many as a schedule has numbers, and one that runs
 -- nothing for none
@@ -70,7 +70,7 @@ steps_of (code file) = 0
 steps_of (pack file) = 0
 steps_of (bulk size) = MOST_STEPS
 steps_of (exec file steps every report) = steps
-steps_of (when file plan) = MOST_NUMBERS
+steps_of (when file plan keep) = MOST_NUMBERS
 
 -- the number to which a command tunes the pacers: how often they are asked before they say yes, 0 for never; `bulk` has them say yes never
 abbrev pub every_of : Command → ℕ
@@ -82,7 +82,7 @@ every_of (code file) = 0
 every_of (pack file) = 0
 every_of (bulk size) = 0
 every_of (exec file steps every report) = every
-every_of (when file plan) = 0
+every_of (when file plan keep) = 0
 
 -- whether a command runs a program on the machine that is handed in
 abbrev pub runs_on : Command → Bool
@@ -94,7 +94,7 @@ runs_on (code file) = false
 runs_on (pack file) = false
 runs_on (bulk size) = true
 runs_on (exec file steps every report) = true
-runs_on (when file plan) = false
+runs_on (when file plan keep) = false
 
 -- whether it is `slide`
 abbrev pub is_slide : Command → Bool
@@ -106,7 +106,7 @@ is_slide (code file) = false
 is_slide (pack file) = false
 is_slide (bulk size) = false
 is_slide (exec file steps every report) = false
-is_slide (when file plan) = false
+is_slide (when file plan keep) = false
 
 -- whether a command reports
 abbrev pub reports : Command → Bool
@@ -118,7 +118,7 @@ reports (code file) = false
 reports (pack file) = false
 reports (bulk size) = false
 reports (exec file steps every report) = report
-reports (when file plan) = false
+reports (when file plan keep) = false
 
 -- whether what the words give does
 abbrev pub may_report : Option Command → Bool
@@ -135,12 +135,17 @@ reads_input (code file) = false
 reads_input (pack file) = false
 reads_input (bulk size) = false
 reads_input (exec file steps every report) = true
-reads_input (when file plan) = true
+reads_input (when file plan keep) = true
 
 -- whether what the words give may
 abbrev pub may_read : Option Command → Bool
 may_read None = false
 may_read (Some c) = reads_input c
+
+-- whether what the words give runs a program there
+abbrev pub may_run : Option Command → Bool
+may_run None = false
+may_run (Some c) = runs_on c
 
 -- whether a command opens a file
 abbrev pub opens_file : Command → Bool
@@ -152,12 +157,24 @@ opens_file (code file) = true
 opens_file (pack file) = true
 opens_file (bulk size) = false
 opens_file (exec file steps every report) = true
-opens_file (when file plan) = true
+opens_file (when file plan keep) = true
 
 -- whether what the words give opens one
 abbrev pub may_open : Option Command → Bool
 may_open None = false
 may_open (Some c) = opens_file c
+
+-- the cown whose content is kept, where a command keeps one
+abbrev pub keep_of : Command → Option ℕ
+keep_of (run slides file steps every report) = None
+keep_of (plain file steps) = None
+keep_of (fmt file) = None
+keep_of (check file) = None
+keep_of (code file) = None
+keep_of (pack file) = None
+keep_of (bulk size) = None
+keep_of (exec file steps every report) = None
+keep_of (when file plan keep) = keep
 
 -- whether a command reads a schedule on the input
 abbrev pub is_scheduled : Command → Bool
@@ -169,7 +186,7 @@ is_scheduled (code file) = false
 is_scheduled (pack file) = false
 is_scheduled (bulk size) = false
 is_scheduled (exec file steps every report) = false
-is_scheduled (when file plan) = true
+is_scheduled (when file plan keep) = true
 
 -- whether what the words give does
 abbrev pub may_schedule : Option Command → Bool
@@ -257,11 +274,26 @@ named name file options =
     if bytes_eq name (codes "code") then alone (code file) options else
     if bytes_eq name (codes "pack") then alone (pack file) options else None
 
--- `when` on a file, with the words behind it: one, which names the file of the plan
+-- the cown whose number a word writes, in at most four digits
+abbrev pub cown_in : (word : List ℕ) → Option ℕ
+cown_in word = if nat_le (length word) 4 then number_in word MOST_COWN else None
+
+-- `--keep K` with nothing behind it
+abbrev pub keeping : List (List ℕ) → Option ℕ
+keeping [] = None
+keeping (option ∷ []) = None
+keeping (option ∷ number ∷ []) = if bytes_eq option (codes "--keep") then cown_in number else None
+keeping (option ∷ number ∷ more ∷ rest) = None
+
+-- the words behind the plan: none, or what is kept
+abbrev pub kept_in : List (List ℕ) → (Option ℕ → Command) → Option Command
+kept_in [] go = Some (go None)
+kept_in (word ∷ words) go = option_map (λ k. go (Some k)) (keeping (word ∷ words))
+
+-- `when` on a file, with the words behind it: one, which names the file of the plan, and what is kept
 abbrev pub scheduling : (file : List ℕ) → List (List ℕ) → Option Command
 scheduling file [] = None
-scheduling file (plan ∷ []) = if is_file plan then Some (when file plan) else None
-scheduling file (plan ∷ word ∷ words) = None
+scheduling file (plan ∷ words) = if is_file plan then kept_in words (when file plan) else None
 
 -- what a name says of a file, with the words behind it
 abbrev pub on_file : List ℕ → List ℕ → List (List ℕ) → Option Command

@@ -31,14 +31,14 @@ command_of (request.Bulk size) = bulk size
 abbrev pub command_for : Task → Command
 command_for (task.OfProgram request) = command_of request
 command_for (task.OfModule file options) = exec file.now options.steps options.every options.report
-command_for (task.OfPlan file plan) = when file.now plan.now
+command_for (task.OfPlan file plan keep) = when file.now plan.now keep
 
 -- a size is within its limit
 abbrev pub IsWithin : Origin → Type 0
 IsWithin (in_file file) = ⊤
 IsWithin (generated size) = size ≤ MOST_SIZE
 IsWithin (in_module file) = ⊤
-IsWithin (with_plan file plan) = ⊤
+IsWithin (with_plan file plan keep) = ⊤
 
 -- what is asked for is
 abbrev pub AsksWithin : Request → Type 0

@@ -14,6 +14,7 @@ number_of (status.Refused f) = 1
 number_of status.Usage = 2
 number_of (status.Trap kind line) = 3
 number_of status.Spent = 4
+number_of (status.Away n) = 4
 number_of status.SourceFault = 5
 number_of status.InputFault = 6
 number_of status.OutputFault = 7
@@ -37,7 +38,7 @@ usage_text =
     codes "usage: reggio run FILE [--steps N] [--every N] [--report]; check FILE; fmt FILE; code FILE; plain FILE [--steps N]; bulk N"
     ++ codes "; slide FILE [--steps N] [--every N] [--report]; pack FILE"
     ++ codes "; exec FILE [--steps N] [--every N] [--report]"
-    ++ codes "; when FILE PLAN"
+    ++ codes "; when FILE PLAN [--keep K]"
 
 -- the text of a status, where so many steps were asked for
 abbrev pub status_text : ℕ → Status → List ℕ
@@ -46,6 +47,7 @@ status_text steps (status.Refused f) = fault_text f
 status_text steps status.Usage = usage_text ++ 10 ∷ []
 status_text steps (status.Trap kind line) = trap_text kind ++ codes " at line " ++ decimal line ++ 10 ∷ []
 status_text steps status.Spent = codes "spent" ++ codes " at step " ++ decimal steps ++ 10 ∷ []
+status_text steps (status.Away n) = codes "spent" ++ codes " at step " ++ decimal n ++ 10 ∷ []
 status_text steps status.SourceFault = codes "source fault" ++ 10 ∷ []
 status_text steps status.InputFault = codes "input fault" ++ 10 ∷ []
 status_text steps status.OutputFault = codes "output fault" ++ 10 ∷ []
@@ -59,6 +61,7 @@ is_answer (status.Refused f) = true
 is_answer status.Usage = false
 is_answer (status.Trap kind line) = true
 is_answer status.Spent = true
+is_answer (status.Away n) = true
 is_answer status.SourceFault = false
 is_answer status.InputFault = false
 is_answer status.OutputFault = false
@@ -72,6 +75,7 @@ ends_run (status.Refused f) = false
 ends_run status.Usage = false
 ends_run (status.Trap kind line) = true
 ends_run status.Spent = true
+ends_run (status.Away n) = false
 ends_run status.SourceFault = false
 ends_run status.InputFault = false
 ends_run status.OutputFault = false
@@ -85,6 +89,7 @@ is_refusal (status.Refused f) = true
 is_refusal status.Usage = true
 is_refusal (status.Trap kind line) = false
 is_refusal status.Spent = false
+is_refusal (status.Away n) = false
 is_refusal status.SourceFault = true
 is_refusal status.InputFault = false
 is_refusal status.OutputFault = false
@@ -98,6 +103,7 @@ is_cut_off (status.Refused f) = false
 is_cut_off status.Usage = false
 is_cut_off (status.Trap kind line) = false
 is_cut_off status.Spent = false
+is_cut_off (status.Away n) = false
 is_cut_off status.SourceFault = false
 is_cut_off status.InputFault = false
 is_cut_off status.OutputFault = true
@@ -111,6 +117,7 @@ is_from_outside (status.Refused f) = false
 is_from_outside status.Usage = false
 is_from_outside (status.Trap kind line) = false
 is_from_outside status.Spent = false
+is_from_outside (status.Away n) = false
 is_from_outside status.SourceFault = true
 is_from_outside status.InputFault = true
 is_from_outside status.OutputFault = true
@@ -124,6 +131,7 @@ IsBadSchedule (status.Refused f) = f.code ≡ Schedule
 IsBadSchedule status.Usage = ⊥
 IsBadSchedule (status.Trap kind line) = ⊥
 IsBadSchedule status.Spent = ⊥
+IsBadSchedule (status.Away n) = ⊥
 IsBadSchedule status.SourceFault = ⊥
 IsBadSchedule status.InputFault = ⊥
 IsBadSchedule status.OutputFault = ⊥

@@ -18,6 +18,8 @@ pub enum Status {
     Trap { kind: Trap, line: u64 },
     /// 4: the program still runs after all steps that were asked for
     Spent,
+    /// 4: a running behaviour has the content that was to be kept, behind so many numbers
+    Away { taken: u64 },
     /// 5: the file couldn't be read
     SourceFault,
     /// 6: the input couldn't be read
@@ -41,6 +43,7 @@ impl Status {
             Status::Usage => 2,
             Status::Trap { .. } => 3,
             Status::Spent => 4,
+            Status::Away { .. } => 4,
             Status::SourceFault => 5,
             Status::InputFault => 6,
             Status::OutputFault => 7,

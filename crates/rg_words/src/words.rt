@@ -9,7 +9,8 @@ ghost use Rattle.rg_make.specs.declared.whole.TheConstants.{MOST_SIZE};
 ghost use Rattle.rg_words.specs.Commands.{command, texts, is_file, is_number, value_up_to};
 ghost use Rattle.rg_words.specs.Commands.{number_in, no_options, with_report, with_steps};
 ghost use Rattle.rg_words.specs.Commands.{with_every, with_number, options_in, running, executing};
-ghost use Rattle.rg_words.specs.Commands.{steps_in, named, scheduling, on_file, sized};
+ghost use Rattle.rg_words.specs.Commands.{steps_in, cown_in, keeping, named, scheduling};
+ghost use Rattle.rg_words.specs.Commands.{on_file, sized};
 ghost use Rattle.rg_words.specs.Requests.{command_of, command_for, run_options, AsksWithin};
 ghost use Rattle.rg_words.specs.Requests.{TaskWithin};
 
@@ -18,6 +19,9 @@ use rg_make::MOST_SIZE;
 
 /// How often a pacer is asked before it says yes, where no option says so.
 pub(crate) const USUAL_EVERY: u64 = 1_000;
+
+/// The greatest number of `--keep`.
+pub(crate) const MOST_COWN: u64 = 9_999;
 
 /// The greatest number of `--every`.
 pub(crate) const MOST_EVERY: u64 = 1_000_000_000;
@@ -58,9 +62,17 @@ pub enum Task<'a> {
     /// a command on a program
     OfProgram(Request<'a>),
     /// `exec FILE --steps N --every N --report`
-    OfModule { file: &'a str, options: RunOptions },
-    /// `when FILE PLAN`
-    OfPlan { file: &'a str, plan: &'a str },
+    OfModule {
+        file: &'a str,
+        options: RunOptions,
+    },
+    /// `when FILE PLAN --keep K`
+    OfPlan {
+        file: &'a str,
+        plan: &'a str,
+        /// the number of the cown whose content is kept, from 0
+        keep: Option<u32>,
+    },
 }
 
 /// What the words behind the file of `run`, `slide` or `exec` have given so far.
@@ -305,18 +317,51 @@ fn exec<'a>(file: &'a str, words: &[&str]) -> Option<Task<'a>>
     Some(Task::OfModule { file, options })
 }
 
+/// The cown whose number a word writes.
+fn cown(word: &str) -> Option<u32>
+    ensures { result ≡ cown_in word.now }
+{
+    if word.len() > 4 {
+        return None;
+    }
+    let cown = number(word, MOST_COWN)?;
+    Some(cown as u32)
+}
+
+/// The cown that `--keep` names, with nothing behind it.
+fn keeping(words: &[&str]) -> Option<u32>
+    ensures { result ≡ keeping (texts words.now) }
+{
+    match words {
+        [option, number] if *option == "--keep" => cown(number),
+        _ => None,
+    }
+}
+
 /// `when` on a file with the words behind it.
 fn when<'a>(file: &'a str, words: &[&'a str]) -> Option<Task<'a>>
     ensures is { option_map command_for result ≡ scheduling file.now (texts words.now) }
     ensures within { IfSome result TaskWithin }
 {
-    let [plan] = words else {
+    let [plan, behind @ ..] = words else {
         return None;
     };
     if !can_name_file(plan) {
         return None;
     }
-    Some(Task::OfPlan { file, plan })
+    if behind.is_empty() {
+        return Some(Task::OfPlan {
+            file,
+            plan,
+            keep: None,
+        });
+    }
+    let cown = keeping(behind)?;
+    Some(Task::OfPlan {
+        file,
+        plan,
+        keep: Some(cown),
+    })
 }
 
 /// What a name and the words behind a file ask for of the file.
