@@ -1,9 +1,10 @@
 -- Plans whose images were read by hand: what their cowns come to.
-use Rattle.std.proofs.Common.{◌≡◌, ◌<◌, refl, sym, subst, ℕ, pos, List, [], ◌∷◌, length, false, codes, Option, Some, None, Ok, Err, arith}
+use Rattle.std.proofs.Common.{◌≡◌, ◌<◌, refl, sym, subst, ℕ, pos, List, [], ◌∷◌, length, false, codes, Option, Some, None, Result, Ok, Err, arith}
 use Rattle.std.proofs.lemmas.Int.{ints}
 use Rattle.rg_base.specs.declared.words.Manager.TheVariants as manager
 use Rattle.rg_base.specs.declared.object.Label.TheVariants.{Region}
 use Rattle.rg_base.specs.declared.value.Val.TheVariants.{Int}
+use Rattle.rg_io.specs.Files.{Told}
 use Rattle.rg_tree.specs.Tree.{int, Tree}
 use Rattle.rg_rules.proofs.Sources.{field_named, class_named, program}
 use Rattle.rg_cown.specs.Cargo.{CargoList}
@@ -13,7 +14,8 @@ use Rattle.rg_image.specs.Images.{IsImage, OneContent}
 use Rattle.rg_plan.specs.declared.cown.Cown.{Cown}
 use Rattle.rg_plan.specs.declared.cown.Start.TheVariants.{New, Image}
 use Rattle.rg_loading.specs.declared.limits.TheConstants.{IMAGE_BYTES}
-use Rattle.rg_loading.specs.Loading.{too_long, no_image, IsImageOf, FileComes, no_content, LoadsCome, file_names}
+use Rattle.rg_loading.specs.Loading.{Failing, too_long, no_image, IsImageOf, FileComes, OneComes, no_content, LoadsCome, file_names}
+use Rattle.rg_loading.specs.Files.{AreRead}
 
 -- `class N { v: int; } class M { v: int; } main arena { }`
 abbrev two_classes : Tree
@@ -104,3 +106,25 @@ first_is_empty = (Err (no_image 1), (omega arith, no_bytes, refl), (refl, refl))
 
 first_is_long : (bytes : List ℕ) → IMAGE_BYTES < length bytes → LoadsCome two_classes (loaded 0 1 ∷ loaded 0 2 ∷ []) (bytes ∷ []) (Err too_long)
 first_is_long bytes long = (Err too_long, long, (refl, refl))
+
+-- the files that are read, where these are there
+abbrev there : (image : List ℕ) → Option Told
+there image = Some (record { files = (codes "h", codes "class") ∷ (codes "i", image) ∷ []; rest = [] })
+
+none_is_read : AreRead (there image_of_two) two_classes (new_cown 1 ∷ []) []
+none_is_read = (tt, (Ok (no_content ∷ []), (Ok [], (refl, refl), refl)))
+
+one_is_read : AreRead (there image_of_two) two_classes (new_cown 1 ∷ loaded 0 2 ∷ []) (image_of_two ∷ [])
+one_is_read = ((refl, tt), (Ok (no_content ∷ two ∷ []), one_load))
+
+-- behind one that brings no content there is none
+the_first_is_read : AreRead (there []) two_classes (loaded 0 1 ∷ loaded 0 2 ∷ []) ([] ∷ [])
+the_first_is_read = ((refl, tt), (Err (no_image 1), first_is_empty))
+
+behind-none : (bytes : List ℕ) (one : Result CargoList Failing) (r : Result (List CargoList) Failing) → FileComes two_classes (loaded 0 1) [] one →
+    OneComes one (λ fs q. LoadsCome two_classes (loaded 0 2 ∷ []) fs q) (bytes ∷ []) r → ⊥
+behind-none bytes (Ok x) r h g = no_bytes x h.1
+behind-none bytes (Err why) r h g = let none = g.0 in cc
+
+the_second_is_not : (bytes : List ℕ) → AreRead (there []) two_classes (loaded 0 1 ∷ loaded 0 2 ∷ []) ([] ∷ bytes ∷ []) → ⊥
+the_second_is_not bytes h = behind-none bytes h.1.1.0 h.1.0 h.1.1.1 h.1.1.2

@@ -21,6 +21,10 @@ HaveFiles told (name ∷ names) (bytes ∷ files) = HasFile told name bytes × H
 abbrev pub CownsCome : Option Told → Tree → List Cown → Result (List CargoList) Failing → Type 0
 CownsCome told t cowns r = (files : List (List ℕ)) × HaveFiles told (file_names cowns) files × LoadsCome t cowns files r
 
+-- these are the bytes of the files that are read for cowns, in order: they come to contents, or the last of them says why there are none
+abbrev pub AreRead : Option Told → Tree → List Cown → (files : List (List ℕ)) → Type 0
+AreRead told t cowns files = HaveFiles told (file_names cowns) files × ((r : Result (List CargoList) Failing) × LoadsCome t cowns files r)
+
 -- one cown comes to that
 abbrev pub StartComes : Option Told → Tree → Cown → Start → Result CargoList Failing → Type 0
 StartComes told t c (New manager) r = r ≡ Ok no_content

@@ -1,58 +1,22 @@
 //! A program with a plan (docs/promises.md, "The headline").
 
-ghost use Rattle.std.specs.Prelude.{◌≡◌, ◌≤◌, Ok, Err, MatchOption};
+ghost use Rattle.std.specs.Prelude.{◌≡◌, ◌≤◌, Err, IfOk};
 ghost use Rattle.rg_tree.specs.Rows.RowTrees.{program_of};
 ghost use Rattle.rg_io.specs.Content.{Rose};
 ghost use Rattle.rg_io.specs.Files.{SameFiles};
-ghost use Rattle.rg_plan.specs.Plans.{ReadAs};
-ghost use Rattle.rg_sources.specs.Sources.{plan_for, without_images};
-ghost use Rattle.rg_sources.specs.Brings.{BringsPlan, BringsPlanned};
+ghost use Rattle.rg_world.specs.Worlds.{IsReadFor};
+ghost use Rattle.rg_sources.specs.Sources.{has_kept};
+ghost use Rattle.rg_sources.specs.Brings.{BringsPlan, BringsKeeping, BringsPlanned};
 
 use crate::source::accepted_in;
 use rg_base::{Code, Fault, SOURCE_BYTES, Stop};
 use rg_check::Accepted;
+use rg_cown::Cargo;
 use rg_io::{Files, Taken, take_all};
-use rg_plan::{Plan, Start, plan};
+use rg_loading::images_in;
+use rg_plan::{Plan, plan};
 use rg_words::Status;
 use std::alloc::Global;
-
-/// The line of the first cown that begins with an image.
-fn image_line(plan: &Plan) -> Option<u64>
-    ensures { MatchOption result (without_images plan.now.cowns plan.now ≡ Ok plan.now)
-        (λ line. without_images plan.now.cowns plan.now ≡ Err line) }
-{
-    for i in 0..plan.cowns() {
-        let cown = plan.cown(i);
-        if let Start::Image(_) = &cown.start {
-            return Some(cown.line);
-        }
-    }
-    None
-}
-
-/// A fault of a plan at a line.
-fn bad_plan(line: u64) -> Stop
-    ensures { result ≡ Stop.Fault (record { code = Code.Plan; line = line }) }
-{
-    Stop::Fault(Fault {
-        code: Code::Plan,
-        line,
-    })
-}
-
-/// The plan that bytes say for a program, which names no image.
-fn plan_for(alloc: Global, bytes: &[u8], accepted: &Accepted) -> Result<Plan, Stop>
-    ensures { ReadAs (λ p. p) (plan_for (program_of accepted.now.program) bytes.now) result }
-{
-    let read = match plan(alloc, bytes, accepted) {
-        Ok(read) => read,
-        Err(stop) => return Err(stop),
-    };
-    match image_line(&read) {
-        None => Ok(read),
-        Some(line) => Err(bad_plan(line)),
-    }
-}
 
 /// The plan of a file for a program, or the status of the call without one.
 fn plan_in<F: Files>(
@@ -74,29 +38,76 @@ fn plan_in<F: Files>(
         Err(Taken::Memory) => return Err(Status::Memory),
         Ok(bytes) => bytes,
     };
-    match plan_for(alloc, bytes.bytes(), accepted) {
+    match plan(alloc, bytes.bytes(), accepted) {
         Err(Stop::Fault(fault)) => Err(Status::Refused(fault)),
         Err(Stop::Memory) => Err(Status::Memory),
         Ok(plan) => Ok(plan),
     }
 }
 
-/// An accepted program with a plan.
+/// An accepted program with a plan, and a content for each of its cowns, of which those count whose
+/// line names an image.
 #[derive(Drop)]
 pub struct Planned {
     pub accepted: Accepted,
     pub plan: Plan,
+    pub images: Vec<Cargo>,
 }
 
-/// The program of a file with the plan of another one, or the status of the call without them. The
-/// plan's file is opened where the program is accepted.
+/// Whether a plan has the cown that is to be kept, if there is one.
+fn has_kept(keep: Option<u32>, plan: &Plan) -> bool
+    ensures { result ≡ has_kept keep plan.now }
+{
+    match keep {
+        None => true,
+        Some(cown) => cown < plan.cowns(),
+    }
+}
+
+/// The plan of a file for a program, which has the cown that is to be kept, or the status of the
+/// call without one.
+fn keeping_plan_in<F: Files>(
+    alloc: Global,
+    name: &str,
+    keep: Option<u32>,
+    files: &mut F,
+    accepted: &Accepted,
+) -> Result<Plan, Status>
+    ensures brings { BringsKeeping (F.told files.old) name.now keep
+        (program_of accepted.now.program) result }
+    ensures source_fault { result ≡ Err Status.SourceFault →
+        Rose (F.faults files.old) (F.faults files.new) }
+    ensures same_files { SameFiles (F.told files.old) (F.told files.new) }
+    ensures never_fall { F.faults files.old ≤ F.faults files.new }
+{
+    let plan = match plan_in(alloc, name, files, accepted) {
+        Err(status) => return Err(status),
+        Ok(plan) => plan,
+    };
+    if has_kept(keep, &plan) {
+        Ok(plan)
+    } else {
+        Err(Status::Refused(Fault {
+            code: Code::Plan,
+            line: 0,
+        }))
+    }
+}
+
+/// The program of a file with the plan of another one and the contents of its images, or the
+/// status of the call without them. The plan's file is opened where the program is accepted, and
+/// those of images, in the order of their lines, where the plan has no fault and has the cown
+/// `keep`, if that names one.
 pub fn planned_in<F: Files>(
     alloc: Global,
     file: &str,
     plan: &str,
+    keep: Option<u32>,
     files: &mut F,
 ) -> Result<Planned, Status>
-    ensures brings { BringsPlanned (F.told files.old) file.now plan.now result }
+    ensures brings { BringsPlanned (F.told files.old) file.now plan.now keep result }
+    ensures ready { IfOk result (λ w.
+        IsReadFor (program_of w.accepted.program) w.plan w.images.items) }
     ensures source_fault { result ≡ Err Status.SourceFault →
         Rose (F.faults files.old) (F.faults files.new) }
     ensures same_files { SameFiles (F.told files.old) (F.told files.new) }
@@ -106,8 +117,16 @@ pub fn planned_in<F: Files>(
         Err(status) => return Err(status),
         Ok(accepted) => accepted,
     };
-    match plan_in(alloc, plan, files, &accepted) {
+    let plan = match keeping_plan_in(alloc, plan, keep, files, &accepted) {
+        Err(status) => return Err(status),
+        Ok(plan) => plan,
+    };
+    match images_in(alloc, files, &plan, &accepted) {
         Err(status) => Err(status),
-        Ok(plan) => Ok(Planned { accepted, plan }),
+        Ok(images) => Ok(Planned {
+            accepted,
+            plan,
+            images,
+        }),
     }
 }

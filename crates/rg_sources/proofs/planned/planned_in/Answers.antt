@@ -1,27 +1,37 @@
 use Rattle.rg_tree.specs.Rows.RowTrees.{program_of}
-use Rattle.rg_sources.proofs.Read.{program-refuses, plan-refuses, plan-there, same-after}
+use Rattle.rg_sources.proofs.Read.{program-refuses, keeping-refuses, images-refuse, planned-there, same-after}
 use Rattle.rg_sources.proofs.planned.planned_in.Goals as goal
 
 pub returns-in-Err-clause-brings : goal.returns-in-Err-clause-brings
 returns-in-Err-clause-brings g c =
-    program-refuses (g.F.Files.told c.args.files.now) c.args.file.now c.args.plan.now c.in-Err.status c.in-Err.ensures.brings
+    program-refuses (g.F.Files.told c.args.files.now) c.args.file.now c.args.plan.now c.args.keep c.in-Err.status c.in-Err.ensures.brings
 
-pub returns-in-Err-plan_in-clause-brings : goal.returns-in-Err-plan_in-clause-brings
-returns-in-Err-plan_in-clause-brings g c =
-    plan-refuses (g.F.Files.told c.args.files.now) (g.F.Files.told c.accepted_in.new.files) c.args.file.now c.args.plan.now
-    (program_of c.in-Ok.accepted.program) c.in-Err-plan_in.status c.in-Ok.ensures.same_files c.in-Ok.ensures.brings c.in-Err-plan_in.ensures.brings
+pub returns-in-Err-keeping_plan_in-clause-brings : goal.returns-in-Err-keeping_plan_in-clause-brings
+returns-in-Err-keeping_plan_in-clause-brings g c =
+    keeping-refuses (g.F.Files.told c.args.files.now) (g.F.Files.told c.accepted_in.new.files) c.args.file.now c.args.plan.now c.args.keep
+    (program_of c.in-Ok.accepted.program) c.in-Err-keeping_plan_in.status c.in-Ok.ensures.same_files c.in-Ok.ensures.brings
+    c.in-Err-keeping_plan_in.ensures.brings
 
-pub returns-in-Ok-plan_in-clause-brings : goal.returns-in-Ok-plan_in-clause-brings
-returns-in-Ok-plan_in-clause-brings g c =
-    plan-there (g.F.Files.told c.args.files.now) (g.F.Files.told c.accepted_in.new.files) c.args.file.now c.args.plan.now
-    (program_of c.in-Ok.accepted.program) c.in-Ok-plan_in.plan c.in-Ok.ensures.same_files c.in-Ok.ensures.brings c.in-Ok-plan_in.ensures.brings
+pub returns-in-Err-images_in-clause-brings : goal.returns-in-Err-images_in-clause-brings
+returns-in-Err-images_in-clause-brings g c =
+    let told = g.F.Files.told c.args.files.now in
+    let mid = g.F.Files.told c.accepted_in.new.files in
+    let last = g.F.Files.told c.keeping_plan_in.new.files in
+    let found = c.in-Ok-keeping_plan_in.ensures in
+    images-refuse told mid last c.args.file.now c.args.plan.now c.args.keep (program_of c.in-Ok.accepted.program) c.in-Ok-keeping_plan_in.plan
+    c.in-Ok.ensures.same_files (same-after told mid last c.in-Ok.ensures.same_files found.same_files) c.in-Ok.ensures.brings found.brings.0
+    found.brings.1 c.in-Err-images_in.status c.in-Err-images_in.ensures.brings
 
-pub returns-in-Err-plan_in-clause-same_files : goal.returns-in-Err-plan_in-clause-same_files
-returns-in-Err-plan_in-clause-same_files g c =
-    same-after (g.F.Files.told c.args.files.now) (g.F.Files.told c.accepted_in.new.files) (g.F.Files.told c.plan_in.new.files)
-    c.in-Ok.ensures.same_files c.plan_in.ensures.same_files
+pub returns-in-Ok-images_in-clause-brings : goal.returns-in-Ok-images_in-clause-brings
+returns-in-Ok-images_in-clause-brings g c =
+    let told = g.F.Files.told c.args.files.now in
+    let mid = g.F.Files.told c.accepted_in.new.files in
+    let last = g.F.Files.told c.keeping_plan_in.new.files in
+    let found = c.in-Ok-keeping_plan_in.ensures in
+    planned-there told mid last c.args.file.now c.args.plan.now c.args.keep (program_of c.in-Ok.accepted.program) c.in-Ok-keeping_plan_in.plan
+    c.in-Ok.ensures.same_files (same-after told mid last c.in-Ok.ensures.same_files found.same_files) c.in-Ok.ensures.brings found.brings.0
+    found.brings.1 c.in-Ok-images_in.images.items c.in-Ok-images_in.ensures.brings
 
-pub returns-in-Ok-plan_in-clause-same_files : goal.returns-in-Ok-plan_in-clause-same_files
-returns-in-Ok-plan_in-clause-same_files g c =
-    same-after (g.F.Files.told c.args.files.now) (g.F.Files.told c.accepted_in.new.files) (g.F.Files.told c.plan_in.new.files)
-    c.in-Ok.ensures.same_files c.plan_in.ensures.same_files
+pub returns-in-Ok-images_in-clause-ready : goal.returns-in-Ok-images_in-clause-ready
+returns-in-Ok-images_in-clause-ready g c =
+    let there = c.in-Ok-keeping_plan_in.ensures.brings.0 in c.in-Ok-images_in.ensures.read there.bytes there.read
