@@ -4,16 +4,18 @@ use Rattle.std.proofs.Common.{Err, length-append, refl, sym, ap, ◌∙◌, subs
 use Rattle.std.specs.Prelude.{ℤ, if◌then◌else◌}
 use Rattle.rg_base.specs.Input.{NextNumber, found, malformed, at_end, next_number}
 use Rattle.rg_input.specs.Numbers.{is_more}
-use Rattle.rg_schedule.specs.Schedules.{Schedule, Whole, BadAt, TooLong, behaviour_of, behind_number, behind_next, schedule_from, schedule_of, RunIs}
+use Rattle.rg_schedule.specs.Schedules.{Schedule, Whole, BadAt, TooLong, behaviour_of, behind_number, behind_next, schedule_from, schedule_of}
+use Rattle.rg_schedule.specs.Running.{RunIs, CountIs}
 use Rattle.rg_input.specs.Numbers.{Pending, OnInput, Looks}
 use Rattle.rg_input.specs.declared.refusal.InputFault.{InputFault}
-use Rattle.rg_input.proofs.Input.{OnInput-still, OnInput-both}
+use Rattle.rg_input.proofs.Input.{OnInput-still, OnInput-map, OnInput-both}
 use Rattle.rg_tree.specs.Tree.{Tree}
 use Rattle.rg_code.specs.Code.{Code}
 use Rattle.rg_cown.specs.Cargo.{CargoList}
 use Rattle.rg_plan.specs.Plans.{PlanOf}
 use Rattle.rg_world.specs.Worlds.{WorldIn, IsBehind}
 use Rattle.rg_schedule.specs.declared.limits.TheConstants.{SCHEDULE}
+use Rattle.rg_schedule.specs.declared.running.Behind.{Behind}
 use Rattle.rg_schedule.specs.declared.stop.SchedStop.{SchedStop}
 use Rattle.rg_schedule.specs.declared.stop.SchedStop.TheVariants as stop
 use Rattle.rg_schedule.specs.Inner.Runs.{NoneNamed, Names}
@@ -63,17 +65,17 @@ pub record SoFar (t : Tree) (code : Code) (p : PlanOf) (images : List CargoList)
 
 -- want of memory and a fault of the input say nothing
 quiet-runs : (t : Tree) (code : Code) (p : PlanOf) (images : List CargoList) (why : SchedStop) → (why ≡ stop.Memory) ⊎ (why ≡ stop.InputFault)
-    → (says : Schedule) → RunIs t code p images says (Err why)
-quiet-runs t code p images why (inl e) says = subst (λ (w : SchedStop). RunIs t code p images says (Err w)) (sym e) tt
-quiet-runs t code p images why (inr e) says = subst (λ (w : SchedStop). RunIs t code p images says (Err w)) (sym e) tt
+    → (says : Schedule) → CountIs t code p images says (Err why)
+quiet-runs t code p images why (inl e) says = subst (λ (w : SchedStop). CountIs t code p images says (Err w)) (sym e) tt
+quiet-runs t code p images why (inr e) says = subst (λ (w : SchedStop). CountIs t code p images says (Err w)) (sym e) tt
 
 -- nothing was read
 pub still-quiet : (t : Tree) (code : Code) (p : PlanOf) (images : List CargoList) (first now : Pending) (fl nl : Option (List ℕ))
-    (r : Result WorldIn SchedStop) (why : SchedStop) → r ≡ Err why → (why ≡ stop.Memory) ⊎ (why ≡ stop.InputFault) → now ≡ first → nl ≡ fl
-    → OnInput first now fl nl (λ before after. RunIs t code p images (schedule_of (length p.behaviours) before) r)
+    (r : Result Behind SchedStop) (why : SchedStop) → r ≡ Err why → (why ≡ stop.Memory) ⊎ (why ≡ stop.InputFault) → now ≡ first → nl ≡ fl
+    → OnInput first now fl nl (λ before after. CountIs t code p images (schedule_of (length p.behaviours) before) r)
 still-quiet t code p images first now fl nl r why is quiet same same_left =
-    OnInput-still first now fl nl (λ before after. RunIs t code p images (schedule_of (length p.behaviours) before) r) same same_left
-    (λ bytes. subst (RunIs t code p images (schedule_of (length p.behaviours) bytes)) (sym is)
+    OnInput-still first now fl nl (λ before after. CountIs t code p images (schedule_of (length p.behaviours) before) r) same same_left
+    (λ bytes. subst (CountIs t code p images (schedule_of (length p.behaviours) bytes)) (sym is)
     (quiet-runs t code p images why quiet (schedule_of (length p.behaviours) bytes)))
 
 module _ {t : Tree} {code : Code} {p : PlanOf} {images : List CargoList} where
@@ -90,21 +92,21 @@ module _ {t : Tree} {code : Code} {p : PlanOf} {images : List CargoList} where
 
   pub ends : (first now mid : Pending) (fl nl tl : Option (List ℕ)) (taken : ℕ) (world : WorldIn) → SoFar t code p images first now fl nl taken world
       → OnInput now mid nl tl (Looks (Ok false))
-      → OnInput first mid fl tl (λ before after. RunIs t code p images (schedule_of (length p.behaviours) before) (Ok world))
+      → OnInput first mid fl tl (λ before after. CountIs t code p images (schedule_of (length p.behaviours) before) (Ok (record { world = world; taken = taken })))
   ends first now mid fl nl tl taken world h looks =
       OnInput-both first now mid fl nl tl (λ before after. schedule_of (length p.behaviours) before
       ≡ schedule_from (length p.behaviours) (SCHEDULE - taken) h.numbers after) (Looks (Ok false))
-      (λ before after. RunIs t code p images (schedule_of (length p.behaviours) before) (Ok world)) h.says looks
-      (λ before between after says look. (h.numbers, says ∙ from-end (length p.behaviours) (SCHEDULE - taken) h.numbers between (sym look.0), h.behind))
+      (λ before after. CountIs t code p images (schedule_of (length p.behaviours) before) (Ok (record { world = world; taken = taken }))) h.says looks
+      (λ before between after says look. (h.numbers, says ∙ from-end (length p.behaviours) (SCHEDULE - taken) h.numbers between (sym look.0), (h.many, h.behind)))
 
   pub long : (first now mid : Pending) (fl nl tl : Option (List ℕ)) (taken : ℕ) (world : WorldIn) → SoFar t code p images first now fl nl taken world
       → SCHEDULE ≤ taken → OnInput now mid nl tl (Looks (Ok true))
-      → OnInput first mid fl tl (λ before after. RunIs t code p images (schedule_of (length p.behaviours) before) (Err stop.Spent))
+      → OnInput first mid fl tl (λ before after. CountIs t code p images (schedule_of (length p.behaviours) before) (Err stop.Spent))
   long first now mid fl nl tl taken world h many looks =
       let none : SCHEDULE - taken ≡ 0 = omega (arith, many) in
       OnInput-both first now mid fl nl tl (λ before after. schedule_of (length p.behaviours) before
       ≡ schedule_from (length p.behaviours) (SCHEDULE - taken) h.numbers after) (Looks (Ok true))
-      (λ before after. RunIs t code p images (schedule_of (length p.behaviours) before) (Err stop.Spent)) h.says looks
+      (λ before after. CountIs t code p images (schedule_of (length p.behaviours) before) (Err stop.Spent)) h.says looks
       (λ before between after says look. says ∙ ap (λ n. schedule_from (length p.behaviours) n h.numbers between) none
       ∙ from-long (length p.behaviours) h.numbers between (sym look.0))
 
@@ -128,13 +130,13 @@ module _ {t : Tree} {code : Code} {p : PlanOf} {images : List CargoList} where
   pub bad : (first now mid behind : Pending) (fl nl tl bl : Option (List ℕ)) (taken item : ℕ) (world : WorldIn)
       → SoFar t code p images first now fl nl taken world → taken < SCHEDULE → item ≡ taken + 1
       → OnInput now mid nl tl (Looks (Ok true)) → OnInput mid behind tl bl (Names (length p.behaviours) (Ok None))
-      → OnInput first behind fl bl (λ before after. RunIs t code p images (schedule_of (length p.behaviours) before) (Err (stop.Bad item)))
+      → OnInput first behind fl bl (λ before after. CountIs t code p images (schedule_of (length p.behaviours) before) (Err (stop.Bad item)))
   bad first now mid behind fl nl tl bl taken item world h less is looks names =
       let more : SCHEDULE - taken ≡ suc (SCHEDULE - (taken + 1)) = omega (arith, less) in
       let many : taken ≡ length h.numbers = h.many in
       let place : suc (length h.numbers) ≡ item = omega (arith, many, is) in
       taken-one first now mid behind fl nl tl bl taken world (Ok None)
-      (λ before after. RunIs t code p images (schedule_of (length p.behaviours) before) (Err (stop.Bad item))) h looks names
+      (λ before after. CountIs t code p images (schedule_of (length p.behaviours) before) (Err (stop.Bad item))) h looks names
       (λ before between after says on none.
       says ∙ ap (λ n. schedule_from (length p.behaviours) n h.numbers between) more
       ∙ from-bad (length p.behaviours) (SCHEDULE - (taken + 1)) h.numbers between on none ∙ ap BadAt place)
@@ -162,22 +164,40 @@ module _ {t : Tree} {code : Code} {p : PlanOf} {images : List CargoList} where
 
   -- behind what was taken so far, and one call more that was refused
   pub then-quiet : (first now mid : Pending) (fl nl tl : Option (List ℕ)) (taken : ℕ) (world : WorldIn) (P : List ℕ → List ℕ → Type 0)
-      (r : Result WorldIn SchedStop) (why : SchedStop) → r ≡ Err why → (why ≡ stop.Memory) ⊎ (why ≡ stop.InputFault) → SoFar t code p images first now fl nl taken world
+      (r : Result Behind SchedStop) (why : SchedStop) → r ≡ Err why → (why ≡ stop.Memory) ⊎ (why ≡ stop.InputFault) → SoFar t code p images first now fl nl taken world
       → OnInput now mid nl tl P
-      → OnInput first mid fl tl (λ before after. RunIs t code p images (schedule_of (length p.behaviours) before) r)
+      → OnInput first mid fl tl (λ before after. CountIs t code p images (schedule_of (length p.behaviours) before) r)
   then-quiet first now mid fl nl tl taken world P r why is quiet h call =
       OnInput-both first now mid fl nl tl (λ before after. schedule_of (length p.behaviours) before
       ≡ schedule_from (length p.behaviours) (SCHEDULE - taken) h.numbers after) P
-      (λ before after. RunIs t code p images (schedule_of (length p.behaviours) before) r) h.says call
+      (λ before after. CountIs t code p images (schedule_of (length p.behaviours) before) r) h.says call
       (λ before between after says did.
-      subst (RunIs t code p images (schedule_of (length p.behaviours) before)) (sym is) (quiet-runs t code p images why quiet (schedule_of (length p.behaviours) before)))
+      subst (CountIs t code p images (schedule_of (length p.behaviours) before)) (sym is) (quiet-runs t code p images why quiet (schedule_of (length p.behaviours) before)))
 
   -- behind what was taken so far, and two calls more
   pub both-quiet : (first now mid behind : Pending) (fl nl tl bl : Option (List ℕ)) (taken : ℕ) (world : WorldIn) (P Q : List ℕ → List ℕ → Type 0)
-      (r : Result WorldIn SchedStop) (why : SchedStop) → r ≡ Err why → (why ≡ stop.Memory) ⊎ (why ≡ stop.InputFault) → SoFar t code p images first now fl nl taken world
+      (r : Result Behind SchedStop) (why : SchedStop) → r ≡ Err why → (why ≡ stop.Memory) ⊎ (why ≡ stop.InputFault) → SoFar t code p images first now fl nl taken world
       → OnInput now mid nl tl P → OnInput mid behind tl bl Q
-      → OnInput first behind fl bl (λ before after. RunIs t code p images (schedule_of (length p.behaviours) before) r)
+      → OnInput first behind fl bl (λ before after. CountIs t code p images (schedule_of (length p.behaviours) before) r)
   both-quiet first now mid behind fl nl tl bl taken world P Q r why is quiet h call later =
-      OnInput-both first mid behind fl tl bl (λ before after. RunIs t code p images (schedule_of (length p.behaviours) before) r) Q
-      (λ before after. RunIs t code p images (schedule_of (length p.behaviours) before) r)
+      OnInput-both first mid behind fl tl bl (λ before after. CountIs t code p images (schedule_of (length p.behaviours) before) r) Q
+      (λ before after. CountIs t code p images (schedule_of (length p.behaviours) before) r)
       (then-quiet first now mid fl nl tl taken world P r why is quiet h call) later (λ before between after says did. says)
+
+  -- the same without the count
+  pub uncounted : (first mid : Pending) (fl tl : Option (List ℕ)) (r : Result Behind SchedStop) (b : Behind) → r ≡ Ok b
+      → OnInput first mid fl tl (λ before after. CountIs t code p images (schedule_of (length p.behaviours) before) r)
+      → OnInput first mid fl tl (λ before after. RunIs t code p images (schedule_of (length p.behaviours) before) (Ok b.world))
+  uncounted first mid fl tl r b is h =
+      OnInput-map first mid fl tl (λ before after. CountIs t code p images (schedule_of (length p.behaviours) before) r)
+      (λ before after. RunIs t code p images (schedule_of (length p.behaviours) before) (Ok b.world)) h
+      (λ before after said. let q = subst (CountIs t code p images (schedule_of (length p.behaviours) before)) is said in (q.0, q.1, q.2.1))
+
+pub stopped : (t : Tree) (code : Code) (p : PlanOf) (images : List CargoList) (first mid : Pending) (fl tl : Option (List ℕ))
+    (r : Result Behind SchedStop) (why : SchedStop) → r ≡ Err why
+    → OnInput first mid fl tl (λ before after. CountIs t code p images (schedule_of (length p.behaviours) before) r)
+    → OnInput first mid fl tl (λ before after. RunIs t code p images (schedule_of (length p.behaviours) before) (Err why))
+stopped t code p images first mid fl tl r why is h =
+    OnInput-map first mid fl tl (λ before after. CountIs t code p images (schedule_of (length p.behaviours) before) r)
+    (λ before after. RunIs t code p images (schedule_of (length p.behaviours) before) (Err why)) h
+    (λ before after said. subst (CountIs t code p images (schedule_of (length p.behaviours) before)) is said)

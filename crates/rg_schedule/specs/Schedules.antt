@@ -1,16 +1,9 @@
--- What a schedule on the input says, and what running it answers (docs/architecture.md, "Worlds").
+-- What an input says as a schedule (docs/architecture.md, "Worlds").
 use Rattle.std.specs.Prelude.{◌≡◌, ℕ, zero, suc, ℤ, pos, negsuc, nat_lt, if◌then◌else◌, List, [], ◌∷◌, ◌++◌, length, Option, Some, None, Result, Ok}
 use Rattle.std.specs.Prelude.{Err}
 use Rattle.rg_base.specs.Input.{NextNumber, found, malformed, at_end, next_number}
-use Rattle.rg_tree.specs.Tree.{Tree}
-use Rattle.rg_code.specs.Code.{Code}
-use Rattle.rg_cown.specs.Cargo.{CargoList}
 use Rattle.rg_input.specs.Numbers.{is_more}
-use Rattle.rg_plan.specs.Plans.{PlanOf}
 use Rattle.rg_schedule.specs.declared.limits.TheConstants.{SCHEDULE}
-use Rattle.rg_schedule.specs.declared.stop.SchedStop.{SchedStop}
-use Rattle.rg_schedule.specs.declared.stop.SchedStop.TheVariants as stop
-use Rattle.rg_world.specs.Worlds.{WorldIn, IsBehind}
 
 -- what an input says as a schedule
 pub data Schedule : Type 0 where
@@ -45,12 +38,3 @@ schedule_from n (suc left) so_far bytes = behind_next n so_far (next_number byte
 -- what an input says as a schedule of so many behaviours
 abbrev pub schedule_of : (behaviours : ℕ) → (bytes : List ℕ) → Schedule
 schedule_of n bytes = schedule_from n SCHEDULE [] bytes
-
--- What is answered of a schedule: the world behind it where it was read to its end, else where it is bad, or that it is too long. A fault of the
--- input and want of memory say nothing.
-abbrev pub RunIs : Tree → Code → PlanOf → List CargoList → Schedule → Result WorldIn SchedStop → Type 0
-RunIs t code p images says (Ok w) = (numbers : List ℕ) × (says ≡ Whole numbers) × IsBehind t code p images numbers w
-RunIs t code p images says (Err (stop.Bad item)) = says ≡ BadAt item
-RunIs t code p images says (Err stop.Spent) = says ≡ TooLong
-RunIs t code p images says (Err stop.InputFault) = Unit {0}
-RunIs t code p images says (Err stop.Memory) = Unit {0}

@@ -8,5 +8,5 @@ mod running;
 mod stop;
 
 pub use limits::SCHEDULE;
-pub use running::run;
+pub use running::{Behind, run, run_counted};
 pub use stop::SchedStop;

@@ -6,6 +6,7 @@ ghost use Rattle.rg_rules.specs.Types.{fields_of};
 ghost use Rattle.rg_rules.specs.Runs.{Ran, Running as going};
 ghost use Rattle.rg_sched.specs.Events.{one_more};
 ghost use Rattle.rg_first.specs.First.{IsFirst, IsOfBehaviour};
+ghost use Rattle.rg_step.specs.Pacers.{SameTuned, both};
 ghost use Rattle.rg_world.specs.Standing.{StandsAs, IsProgress};
 ghost use Rattle.rg_world.specs.Inner.Steps.{CameTo, Leaves};
 
@@ -44,11 +45,13 @@ fn step_on(
     requires runs { let t = program_of book.now.program in (r : Ran)
         × StandsAs t code.now (Some r) standing.old × (r.ending ≡ going)
         × IsFirst t.classes class r.state × IsOfBehaviour t class (one_more t.classes r).state }
-    ensures { let t = program_of book.now.program in (r : Ran) →
+    ensures came { let t = program_of book.now.program in (r : Ran) →
         StandsAs t code.now (Some r) standing.old → r.ending ≡ going →
         IsFirst t.classes class r.state → IsOfBehaviour t class (one_more t.classes r).state →
         IfOk result (CameTo t code.now r.state.output (fields_of t.classes class)
         (one_more t.classes r) standing.new) }
+    ensures tuned { SameTuned (both (tally count.old) (tally trace.old))
+        (both (tally count.new) (tally trace.new)) }
 {
     let Standing::Running(stepper) = standing else {
         unreachable!();
@@ -87,12 +90,14 @@ pub(crate) fn advance(
     requires runs { let t = program_of book.now.program in (r : Ran)
         × StandsAs t code.now (Some r) progress.old.standing × (r.ending ≡ going)
         × IsFirst t.classes class r.state × IsOfBehaviour t class (one_more t.classes r).state }
-    ensures { let t = program_of book.now.program in (r : Ran) (n : ℕ) →
+    ensures goes { let t = program_of book.now.program in (r : Ran) (n : ℕ) →
         IsProgress t code.now (Some r) n progress.old → r.ending ≡ going →
         IsFirst t.classes class r.state → IsOfBehaviour t class (one_more t.classes r).state →
         IfOk result (λ left. Leaves (fields_of t.classes class) (one_more t.classes r)
         (option_map (λ v. v.items) left)
         × IsProgress t code.now (Some (one_more t.classes r)) (suc n) progress.new) }
+    ensures tuned { SameTuned (both (tally count.old) (tally trace.old))
+        (both (tally count.new) (tally trace.new)) }
 {
     if progress.turns == u64::MAX {
         return Err(Memory);

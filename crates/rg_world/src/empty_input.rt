@@ -5,6 +5,7 @@ ghost use Rattle.rg_tree.specs.Tree.{Tree};
 ghost use Rattle.rg_rules.specs.Runs.{Ran};
 ghost use Rattle.rg_sched.specs.Events.{one_more};
 ghost use Rattle.rg_first.specs.First.{IsFirst};
+ghost use Rattle.rg_step.specs.Pacers.{SameTuned, both};
 ghost use Rattle.rg_world.specs.Standing.{RunsAs};
 ghost use Rattle.rg_world.specs.Inner.Steps.{Tells};
 
@@ -69,9 +70,11 @@ impl EmptyInput {
         trace: &mut dyn Pacer,
     ) -> Outcome
         requires { (t : Tree) × (r : Ran) × RunsAs t code.now r stepper.old }
-        ensures { (t : Tree) (r : Ran) (class : ℕ) → RunsAs t code.now r stepper.old →
+        ensures tells { (t : Tree) (r : Ran) (class : ℕ) → RunsAs t code.now r stepper.old →
             IsFirst t.classes class r.state →
             Tells t code.now r.state.output (one_more t.classes r) stepper.new result }
+        ensures tuned { SameTuned (both (tally count.old) (tally trace.old))
+            (both (tally count.new) (tally trace.new)) }
     {
         first_lasts();
         let mut source = NoBytes;

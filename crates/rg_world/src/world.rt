@@ -8,6 +8,7 @@ ghost use Rattle.rg_code.specs.Lowering.{Lowers};
 ghost use Rattle.rg_cown.specs.Cargo.{CargoList};
 ghost use Rattle.rg_plan.specs.Plans.{Turn, in_front_of};
 ghost use Rattle.rg_slots.specs.Slots.{content_in};
+ghost use Rattle.rg_step.specs.Pacers.{SameTuned, both};
 ghost use Rattle.rg_world.specs.Standing.{phase_in, stepper_in};
 ghost use Rattle.rg_world.specs.Worlds.{IsBehind, IsReadFor};
 ghost use Rattle.rg_world.specs.Inner.Steps.{all_ended_in, is_ended, is_waiting, is_running};
@@ -31,7 +32,6 @@ use std::alloc::Global;
 use std::marker::Model;
 
 /// The behaviours of a plan, each running one on a machine of its own, and what the cowns have.
-#[derive(Drop)]
 pub struct World {
     progress: Vec<Progress>,
     slots: Slots,
@@ -49,6 +49,18 @@ impl Model for World {
       contents = w.slots;
       began = w.began.items;
     } };
+}
+
+/// Written out, so that no crate above proves how each behaviour is dropped.
+impl Drop for World {
+    fn drop(self) {
+        let World {
+            progress: _,
+            slots: _,
+            began: _,
+            input: _,
+        } = self;
+    }
 }
 
 impl World {
@@ -93,10 +105,12 @@ impl World {
         requires number { i < length plan.now.behaviours }
         requires behind { (images : List CargoList) × (schedule : List ℕ)
             × IsBehind (program_of accepted.now.program) code.now plan.now images schedule self.old }
-        ensures { (images : List CargoList) (schedule : List ℕ) →
+        ensures shows { (images : List CargoList) (schedule : List ℕ) →
             IsBehind (program_of accepted.now.program) code.now plan.now images schedule self.old →
             OnOk result (IsBehind (program_of accepted.now.program) code.now plan.now images
             (schedule ++ i ∷ []) self.new) }
+        ensures tuned { SameTuned (both (tally count.old) (tally trace.old))
+            (both (tally count.new) (tally trace.new)) }
     {
         match self.state(i) {
             Phase::Waiting => self.start(alloc, accepted, code, plan, i),
@@ -160,10 +174,12 @@ impl World {
         requires runs { is_running (slice_get self.old.progress i) ≡ true }
         requires behind { (images : List CargoList) × (schedule : List ℕ)
             × IsBehind (program_of accepted.now.program) code.now plan.now images schedule self.old }
-        ensures { (images : List CargoList) (schedule : List ℕ) →
+        ensures shows { (images : List CargoList) (schedule : List ℕ) →
             IsBehind (program_of accepted.now.program) code.now plan.now images schedule self.old →
             OnOk result (IsBehind (program_of accepted.now.program) code.now plan.now images
             (schedule ++ i ∷ []) self.new) }
+        ensures tuned { SameTuned (both (tally count.old) (tally trace.old))
+            (both (tally count.new) (tally trace.new)) }
     {
         plans_are_good();
         plans_are_settings();

@@ -8,16 +8,16 @@ use Rattle.rg_world.proofs.advance.advance.Goals as goal
 pub step_on-requires-clause-runs : goal.step_on-requires-clause-runs
 step_on-requires-clause-runs g c = c.requires.runs
 
-pub returns-in-On : goal.returns-in-On
-returns-in-On g c = λ r n is on first next.
+pub returns-in-On-clause-goes : goal.returns-in-On-clause-goes
+returns-in-On-clause-goes g c = λ r n is on first next.
     let t = program_of c.args.book.now.program in
     let came = subst (λ z. CameTo t c.args.code.now r.state.output (fields_of t.classes c.args.class) (one_more t.classes r) c.step_on.new.standing z) c.in-On.is
-    (c.in_ok-stepped.ensures r is.standing on first next) in
+    (c.in_ok-stepped.ensures.came r is.standing on first next) in
     (came.1, record { standing = came.0; printed = is.printed ∙ sym came.2; turns_are = omega (arith, is.turns_are) })
 
-pub returns-in-Ended : goal.returns-in-Ended
-returns-in-Ended g c = λ r n is on first next.
+pub returns-in-Ended-clause-goes : goal.returns-in-Ended-clause-goes
+returns-in-Ended-clause-goes g c = λ r n is on first next.
     let t = program_of c.args.book.now.program in
     let came = subst (λ z. CameTo t c.args.code.now r.state.output (fields_of t.classes c.args.class) (one_more t.classes r) c.step_on.new.standing z) c.in-Ended.is
-    (c.in_ok-stepped.ensures r is.standing on first next) in
+    (c.in_ok-stepped.ensures.came r is.standing on first next) in
     (came.1, record { standing = came.0; printed = is.printed ∙ sym came.2; turns_are = omega (arith, is.turns_are) })

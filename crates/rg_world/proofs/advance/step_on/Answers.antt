@@ -18,39 +18,39 @@ pub contents_back-requires-clause-first : goal.contents_back-requires-clause-fir
 contents_back-requires-clause-first g c =
     let t = program_of c.args.book.now.program in
     let r = c.requires.runs in
-    (c.in-Done.ensures t r.0 c.args.class (runs-of t c.args.code.now r.0 c.args.standing.now c.in-Running.stepper r.1 c.in-Running.is) r.3).0.first
+    (c.in-Done.ensures.tells t r.0 c.args.class (runs-of t c.args.code.now r.0 c.args.standing.now c.in-Running.stepper r.1 c.in-Running.is) r.3).0.first
 
 pub contents_back-requires-clause-shows : goal.contents_back-requires-clause-shows
 contents_back-requires-clause-shows g c =
     let t = program_of c.args.book.now.program in
     let r = c.requires.runs in
-    let done = c.in-Done.ensures t r.0 c.args.class (runs-of t c.args.code.now r.0 c.args.standing.now c.in-Running.stepper r.1 c.in-Running.is) r.3 in
+    let done = c.in-Done.ensures.tells t r.0 c.args.class (runs-of t c.args.code.now r.0 c.args.standing.now c.in-Running.stepper r.1 c.in-Running.is) r.3 in
     (c.args.code.now, (one_more t.classes r.0).state, r.4, done.0.shows)
 
 pub unreachable-requires-in-InputFault : goal.unreachable-requires-in-InputFault
 unreachable-requires-in-InputFault g c =
     let t = program_of c.args.book.now.program in
     let r = c.requires.runs in
-    c.in-InputFault.ensures t r.0 c.args.class (runs-of t c.args.code.now r.0 c.args.standing.now c.in-Running.stepper r.1 c.in-Running.is) r.3
+    c.in-InputFault.ensures.tells t r.0 c.args.class (runs-of t c.args.code.now r.0 c.args.standing.now c.in-Running.stepper r.1 c.in-Running.is) r.3
 
-pub returns-in-Running-outcome : goal.returns-in-Running-outcome
-returns-in-Running-outcome g c = λ r stands on first next.
+pub returns-in-Running-outcome-clause-came : goal.returns-in-Running-outcome-clause-came
+returns-in-Running-outcome-clause-came g c = λ r stands on first next.
     let t = program_of c.args.book.now.program in
-    let told = c.in-Running-outcome.ensures t r c.args.class
+    let told = c.in-Running-outcome.ensures.tells t r c.args.class
     (runs-of t c.args.code.now r c.args.standing.now c.in-Running.stepper stands c.in-Running.is) first in
     ((one_more t.classes r, refl, told.0), told.0.ending, told.1)
 
-pub returns-in-Printed : goal.returns-in-Printed
-returns-in-Printed g c = λ r stands on first next.
+pub returns-in-Printed-clause-came : goal.returns-in-Printed-clause-came
+returns-in-Printed-clause-came g c = λ r stands on first next.
     let t = program_of c.args.book.now.program in
-    let told = c.in-Printed.ensures t r c.args.class
+    let told = c.in-Printed.ensures.tells t r c.args.class
     (runs-of t c.args.code.now r c.args.standing.now c.in-Running.stepper stands c.in-Running.is) first in
     ((one_more t.classes r, refl, told.0), told.0.ending, told.1)
 
-pub returns-in_ok-back-in-Done : goal.returns-in_ok-back-in-Done
-returns-in_ok-back-in-Done g c = λ r stands on first next.
+pub returns-in_ok-back-in-Done-clause-came : goal.returns-in_ok-back-in-Done-clause-came
+returns-in_ok-back-in-Done-clause-came g c = λ r stands on first next.
     let t = program_of c.args.book.now.program in
-    let told = c.in-Done.ensures t r c.args.class
+    let told = c.in-Done.ensures.tells t r c.args.class
     (runs-of t c.args.code.now r c.args.standing.now c.in-Running.stepper stands c.in-Running.is) first in
     let fields = fields_of t.classes c.args.class in
     let then = one_more t.classes r in (
@@ -60,10 +60,10 @@ returns-in_ok-back-in-Done g c = λ r stands on first next.
       told.1,
     )
 
-pub returns-in-Trap : goal.returns-in-Trap
-returns-in-Trap g c = λ r stands on first next.
+pub returns-in-Trap-clause-came : goal.returns-in-Trap-clause-came
+returns-in-Trap-clause-came g c = λ r stands on first next.
     let t = program_of c.args.book.now.program in
-    let told = c.in-Trap.ensures t r c.args.class
+    let told = c.in-Trap.ensures.tells t r c.args.class
     (runs-of t c.args.code.now r c.args.standing.now c.in-Running.stepper stands c.in-Running.is) first in
     let fields = fields_of t.classes c.args.class in
     let then = one_more t.classes r in (

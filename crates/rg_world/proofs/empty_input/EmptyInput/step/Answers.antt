@@ -7,7 +7,7 @@ invariant_of-self g c =
     still-empty r.0 c.args.code.now r.1 _ _ c.step.result _ _ r.2 c.self.invariant c.step.ensures.step
     (λ u p on quiet. (c.step.ensures.reads_nothing u p on quiet).0)
 
-pub returns : goal.returns
-returns g c = λ t r class runs first.
+pub returns-clause-tells : goal.returns-clause-tells
+returns-clause-tells g c = λ t r class runs first.
     step-tells t c.args.code.now r class _ _ c.step.result _ _ c.first_lasts.ensures runs first c.self.invariant c.step.ensures.step
     (λ u p on quiet. (c.step.ensures.reads_nothing u p on quiet).0) c.step.ensures.fault

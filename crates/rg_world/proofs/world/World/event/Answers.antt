@@ -18,14 +18,14 @@ start-requires-clause-waits g c = phase-waits (slice_get c.args.self.now.progres
 pub step-requires-clause-runs : goal.step-requires-clause-runs
 step-requires-clause-runs g c = phase-runs (slice_get c.args.self.now.progress c.args.i) c.in-Running.ensures
 
-pub returns-in-Done : goal.returns-in-Done
-returns-in-Done g c = λ images schedule h.
+pub returns-in-Done-clause-shows : goal.returns-in-Done-clause-shows
+returns-in-Done-clause-shows g c = λ images schedule h.
     let q = phase-ends (slice_get c.args.self.now.progress c.args.i) phase.Done c.in-Done.ensures tt in
     let b = there-is c.args.plan.now.behaviours c.args.i c.requires.number in
     ended-on (program_of c.args.accepted.now.program) c.args.code.now c.args.plan.now images schedule c.args.self.now h c.args.i b.0 b.1 q.0 q.1 q.2
 
-pub returns-in-Trap : goal.returns-in-Trap
-returns-in-Trap g c = λ images schedule h.
+pub returns-in-Trap-clause-shows : goal.returns-in-Trap-clause-shows
+returns-in-Trap-clause-shows g c = λ images schedule h.
     let q = phase-ends (slice_get c.args.self.now.progress c.args.i) (phase.Trap c.in-Trap.kind c.in-Trap.line) c.in-Trap.ensures tt in
     let b = there-is c.args.plan.now.behaviours c.args.i c.requires.number in
     ended-on (program_of c.args.accepted.now.program) c.args.code.now c.args.plan.now images schedule c.args.self.now h c.args.i b.0 b.1 q.0 q.1 q.2

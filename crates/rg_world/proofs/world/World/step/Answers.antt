@@ -50,8 +50,8 @@ put-requires g c =
     (cowns-below (program_of c.args.accepted.now.program) c.args.code.now c.args.plan.now b.0 b.1 c.args.self.now b.2 c.args.i
     c.behaviour-turn.result.now c.behaviour-turn.ensures c.plans_are_good.ensures))
 
-pub returns-in_default : goal.returns-in_default
-returns-in_default g c = λ images schedule h.
+pub returns-in_default-clause-shows : goal.returns-in_default-clause-shows
+returns-in_default-clause-shows g c = λ images schedule h.
     let t = program_of c.args.accepted.now.program in
     let b = c.behaviour-turn.result.now in
     let m : WorldIn = record { progress = c.self.inside.progress.items; contents = c.self.inside.slots; began = c.self.inside.began.items } in
@@ -63,11 +63,11 @@ returns-in_default g c = λ images schedule h.
     c.contents_are_separate.ensures c.plans_are_settings.ensures c.plans_are_good.ensures c.runs_are_of_behaviours.ensures
     q.0 c.index_mut.result.now c.advance.new.progress c.class.result (program_of c.book.result.program) (lists c.in_ok-left.left) c.self.inside.slots q.1 q.2
     (c.index_mut.ensures.value ∙ get_or_from_slice_get m.progress c.args.i q.0 _ q.1) c.class.ensures
-    (ap (λ (z : Known). program_of z.program) c.book.ensures.is) c.in_ok-left.ensures
+    (ap (λ (z : Known). program_of z.program) c.book.ensures.is) c.in_ok-left.ensures.goes
     (ap (λ o. contents_with b.cowns (lists o) m.contents) (sym c.in_default.is))
 
-pub returns : goal.returns
-returns g c = λ images schedule h.
+pub returns-clause-shows : goal.returns-clause-shows
+returns-clause-shows g c = λ images schedule h.
     let t = program_of c.args.accepted.now.program in
     let b = c.behaviour-turn.result.now in
     let m : WorldIn = record { progress = c.self.inside.progress.items; contents = c.self.inside.slots; began = c.self.inside.began.items } in
@@ -79,6 +79,6 @@ returns g c = λ images schedule h.
     c.contents_are_separate.ensures c.plans_are_settings.ensures c.plans_are_good.ensures c.runs_are_of_behaviours.ensures
     q.0 c.index_mut.result.now c.advance.new.progress c.class.result (program_of c.book.result.program) (lists c.in_ok-left.left) c.put.new.self q.1 q.2
     (c.index_mut.ensures.value ∙ get_or_from_slice_get m.progress c.args.i q.0 _ q.1) c.class.ensures
-    (ap (λ (z : Known). program_of z.program) c.book.ensures.is) c.in_ok-left.ensures
+    (ap (λ (z : Known). program_of z.program) c.book.ensures.is) c.in_ok-left.ensures.goes
     (c.put.ensures ∙ ap (λ z. put z (map content_in c.in-Some.contents.items) m.contents) c.cowns.ensures
     ∙ ap (λ o. contents_with b.cowns (lists o) m.contents) (sym c.in-Some.is))
