@@ -1,4 +1,4 @@
--- Words for examples, also of crates above: a program whose behaviours count, and plans for it.
+-- Words for examples: a program whose behaviours count, and plans for it.
 use Rattle.std.proofs.Common.{ℕ, pos, List, [], ◌∷◌, ◌++◌, false, None, codes}
 use Prim.Native.String.{String}
 use Rattle.rg_base.specs.declared.words.Cap.TheVariants as cap

@@ -1,16 +1,18 @@
 -- Short plans and schedules, computed: what `when` answers to them.
 use Rattle.std.specs.Fmt.{digits}
-use Rattle.std.proofs.Common.{◌≡◌, refl, List, [], ◌∷◌, Ok, Err, codes}
+use Rattle.std.proofs.Common.{◌≡◌, refl, ℕ, List, [], ◌∷◌, ◌++◌, length, replicate, Option, Some, None, Ok, Err, codes}
 use Prim.Native.String.{String}
 use Rattle.rg_base.specs.declared.fault.Code.TheVariants.{Plan, Schedule}
 use Rattle.rg_rules.specs.Runs.{plain_from}
+use Rattle.rg_cown.specs.Cargo.{CargoList}
 use Rattle.rg_cown.specs.Contents.{read_on}
 use Rattle.rg_plan.specs.Plans.{Read, PlanOf}
 use Rattle.rg_plan.specs.Rules.{plan_of}
+use Rattle.rg_sched.specs.Contents.{Empty}
 use Rattle.rg_schedule.specs.Schedules.{Whole, BadAt, TooLong, schedule_of, schedule_from}
 use Rattle.rg_words.specs.declared.status.Status.TheVariants as status
 use Rattle.rg_words.specs.Answers.{Answer, refused}
-use Rattle.rg_when.specs.Scheduled.{schedule_answer}
+use Rattle.rg_when.specs.Scheduled.{kept_of, schedule_answer}
 use Rattle.rg_when.proofs.Counter.{counted, lines, two}
 
 -- What inputs say as schedules
@@ -47,13 +49,17 @@ no_number_behind_two = refl
 
 -- What `when` answers
 
-abbrev by_plan : Read PlanOf → (input : String) → Answer
-by_plan (Ok p) input = schedule_answer counted p (codes input)
-by_plan (Err line) input = refused (record { code = Plan; line = line })
+-- for each cown of a plan a content, of which none counts where no line names an image
+abbrev no_images : PlanOf → List CargoList
+no_images p = replicate (length p.cowns) (record { cells = []; managers = [] })
+
+abbrev by_plan : Read PlanOf → (keep : Option ℕ) → (input : String) → Answer
+by_plan (Ok p) keep input = schedule_answer counted p (no_images p) keep (codes input)
+by_plan (Err line) keep input = refused (record { code = Plan; line = line })
 
 -- the answer to the lines of a plan and an input
 abbrev to_plan : List String → (input : String) → Answer
-to_plan ss input = by_plan (plan_of counted (lines ss)) input
+to_plan ss input = by_plan (plan_of counted (lines ss)) None input
 
 -- the text of these lines
 abbrev told : List String → Answer
@@ -83,3 +89,45 @@ bad_schedule = refl
 
 bad_plan : to_plan ("when A.add 0" ∷ []) "" ≡ refused (record { code = Plan; line = 1 })
 bad_plan = refl
+
+-- What is kept
+
+-- the answer where the content of cown 0 is kept
+abbrev keeps : List String → (input : String) → Answer
+keeps ss input = by_plan (plan_of counted (lines ss)) (Some 0) input
+
+-- eight bytes of a small number
+abbrev small : ℕ → List ℕ
+small n = 0 ∷ 0 ∷ 0 ∷ 0 ∷ 0 ∷ 0 ∷ 0 ∷ n ∷ []
+
+-- the image of an object of the first class with this number, alone in a region with an arena: 52 bytes
+abbrev image_of : ℕ → List ℕ
+image_of v = codes "RGI1" ++ 1 ∷ small 1 ++ 0 ∷ small 1 ++ 0 ∷ 0 ∷ 0 ∷ 0 ∷ 0 ∷ small 0 ++ small 1 ++ 1 ∷ small v
+
+bytes_of_it : length (image_of 2) ≡ 52
+bytes_of_it = refl
+
+-- the image of an object with this number was written
+abbrev kept_number : ℕ → Answer
+kept_number v = record { status = status.Done; text = image_of v }
+
+none_touches_it : keeps ("cown N arena" ∷ []) "" ≡ kept_number 0
+unfolding plain_from read_on schedule_from
+none_touches_it = refl
+
+kept_behind_both : keeps two "0 1 0 0 0 0 0 0 1 1 1 1 1 1 1" ≡ kept_number 2
+unfolding plain_from read_on schedule_from
+kept_behind_both = refl
+
+-- behind three numbers the first behaviour still has it
+away : keeps two "0 1 0" ≡ record { status = status.Away 3; text = [] }
+unfolding plain_from read_on schedule_from
+away = refl
+
+bad_schedule_kept : keeps two "0 2" ≡ refused (record { code = Schedule; line = 2 })
+unfolding schedule_from
+bad_schedule_kept = refl
+
+-- a behaviour that trapped leaves nothing
+nothing_left : kept_of Empty 5 ≡ record { status = status.Done; text = codes "RGI1" ++ 0 ∷ [] }
+nothing_left = refl

@@ -1,6 +1,7 @@
--- The lemmas that the answers of rg_when use; Input, Told and Counter are for crates above.
-pub mod Input
-pub mod Told
+-- The lemmas that the answers of rg_when use.
+mod Input
+mod Told
+mod Lengths
 mod Settled
-pub mod Counter
+mod Counter
 mod Examples

@@ -1,20 +1,25 @@
 -- What was answered to a schedule.
-use Rattle.std.proofs.Common.{◌≡◌, ◌≤◌, ℕ, length, List, [], Option, Some, None, Result, Err, refl, sym, ap, subst}
-use Rattle.rg_io.specs.Content.{Rose, AppendsPart}
+use Rattle.std.proofs.Common.{◌≡◌, ◌≤◌, inl, inr, ◌∙◌, ℕ, true, length, List, [], Option, Some, None, Result, Err, refl, sym, ap, subst}
+use Rattle.std.specs.Prelude.{slice_index_or}
+use Rattle.rg_io.specs.Content.{Rose, Appends, AppendsPart}
 use Rattle.rg_tree.specs.Tree.{Tree}
 use Rattle.rg_code.specs.Code.{Code}
 use Rattle.rg_cown.specs.Cargo.{CargoList}
 use Rattle.rg_plan.specs.Plans.{PlanOf}
-use Rattle.rg_schedule.specs.Schedules.{Whole, schedule_of, RunIs}
+use Rattle.rg_sched.specs.Contents.{Content, Away, Empty, Held}
+use Rattle.rg_schedule.specs.Schedules.{Whole, schedule_of}
+use Rattle.rg_schedule.specs.Running.{CountIs}
+use Rattle.rg_schedule.specs.declared.running.Behind.{Behind}
 use Rattle.rg_schedule.specs.declared.stop.SchedStop.{SchedStop}
 use Rattle.rg_schedule.specs.declared.stop.SchedStop.TheVariants as stop
-use Rattle.rg_world.specs.Worlds.{WorldIn}
 use Rattle.rg_words.specs.declared.status.Status.{Status}
 use Rattle.rg_words.specs.declared.status.Status.TheVariants as status
-use Rattle.rg_words.specs.Answers.{Answer, ForInput, PutLine, CausedBeside, CausedByOutput}
+use Rattle.rg_words.specs.Statuses.{is_cut_off}
+use Rattle.rg_words.specs.Answers.{Answer, ForInput, CausedBeside, CausedByOutput}
 use Rattle.rg_words.proofs.Written.{untouched-text}
+use Rattle.rg_when.specs.Inner.Puts.{text_answer, PutsAnswer}
 use Rattle.rg_when.specs.Inner.Stops.{status_of}
-use Rattle.rg_when.specs.Scheduled.{text_behind, said_with, answer_with, AnsweredPart, SettlesBy}
+use Rattle.rg_when.specs.Scheduled.{told_behind, kept_of, answer_behind, said_answer, schedule_answer, AnsweredPart, SettlesBy, SettlesSchedule}
 
 -- some input, where nothing was written
 pub nothing-written : (expected : List ℕ → Answer) (left old : Option (List ℕ)) → AnsweredPart expected left old old
@@ -22,35 +27,89 @@ nothing-written expected None old = ([], tt, ([], record { rest = (expected []).
 nothing-written expected (Some bytes) old =
     (bytes, refl, ([], record { rest = (expected bytes).text; whole_is = refl }, untouched-text old old refl))
 
+-- How an answer was given
+
+-- no memory was found
+pub none-put : (a : Answer) (old : Option (List ℕ)) → PutsAnswer status.Memory a old old
+none-put a old = inr (refl, ([], record { rest = a.text; whole_is = refl }, untouched-text old old refl))
+
+module _ (n : ℕ) (a : Answer) (told : Option (List ℕ)) (is : text_answer told n ≡ a) (old : Option (List ℕ)) where
+  -- there is no text
+  pub away-put : told ≡ None → PutsAnswer (status.Away n) a old old
+  away-put none =
+      subst (λ (x : Answer). PutsAnswer (status.Away n) x old old) (ap (λ o. text_answer o n) (sym none) ∙ is) (inl (refl, untouched-text old old refl))
+
+  module _ (text bytes : List ℕ) (new : Option (List ℕ)) (some : told ≡ Some text) (same : bytes ≡ text) where
+    answered : text_answer (Some bytes) n ≡ a
+    answered = ap (λ xs. text_answer (Some xs) n) same ∙ ap (λ o. text_answer o n) (sym some) ∙ is
+
+    -- it was written
+    pub text-put : Appends old new bytes → PutsAnswer status.Done a old new
+    text-put put = subst (λ (x : Answer). PutsAnswer status.Done x old new) answered (inl (refl, put))
+
+    -- or a part of it
+    pub part-put : AppendsPart old new bytes → PutsAnswer status.OutputFault a old new
+    part-put put = subst (λ (x : Answer). PutsAnswer status.OutputFault x old new) answered (inr (refl, put))
+
+-- What that says
+
 -- what is said of the schedule that the input says
-abbrev pub RunOn : Tree → Code → PlanOf → List CargoList → (left : Option (List ℕ)) → Result WorldIn SchedStop → Type 0
-RunOn t code p images left r = ForInput left (λ input. (rest : List ℕ) × RunIs t code p images (schedule_of (length p.behaviours) input) r)
+abbrev pub RunOn : Tree → Code → PlanOf → List CargoList → (left : Option (List ℕ)) → Result Behind SchedStop → Type 0
+RunOn t code p images left r = ForInput left (λ input. (rest : List ℕ) × CountIs t code p images (schedule_of (length p.behaviours) input) r)
 
 -- it wasn't read to its end
-pub stop-settles : (t : Tree) (code : Code) (p : PlanOf) (images : List CargoList) (left old : Option (List ℕ)) (why : SchedStop) →
-    RunOn t code p images left (Err why) → SettlesBy (answer_with t p images) left (status_of why) old old
-stop-settles t code p images left old (stop.Bad item) h = (h.0, h.1, ([], ap (said_with t p images) h.2.1, untouched-text old old refl))
-stop-settles t code p images left old stop.Spent h = (h.0, h.1, ([], ap (said_with t p images) h.2.1, untouched-text old old refl))
-stop-settles t code p images left old stop.InputFault h = refl
-stop-settles t code p images left old stop.Memory h = nothing-written (answer_with t p images) left old
+pub stop-settles : (t : Tree) (code : Code) (p : PlanOf) (images : List CargoList) (keep : Option ℕ) (left old : Option (List ℕ)) (why : SchedStop) →
+    RunOn t code p images left (Err why) → SettlesSchedule t p images keep left (status_of why) old old
+stop-settles t code p images keep left old (stop.Bad item) h =
+    (h.0, h.1, ([], ap (said_answer t p images keep) h.2.1, untouched-text old old refl))
+stop-settles t code p images keep left old stop.Spent h = (h.0, h.1, ([], ap (said_answer t p images keep) h.2.1, untouched-text old old refl))
+stop-settles t code p images keep left old stop.InputFault h = refl
+stop-settles t code p images keep left old stop.Memory h = nothing-written (schedule_answer t p images keep) left old
 
--- it was, and the text of the world behind it was given to the output
-pub world-settles : (t : Tree) (p : PlanOf) (images : List CargoList) (left : Option (List ℕ)) (numbers : List ℕ) (s : Status)
+module _ (expected : List ℕ → Answer) (left old new : Option (List ℕ)) where
+  -- a part of the text was written
+  part-settles : (s : Status) (a : Answer) → is_cut_off s ≡ true → ForInput left (λ input. expected input ≡ a) → AppendsPart old new a.text
+      → SettlesBy expected left s old new
+  part-settles status.Done a cut h put = absurd (cc)
+  part-settles (status.Refused f) a cut h put = absurd (cc)
+  part-settles status.Usage a cut h put = absurd (cc)
+  part-settles (status.Trap kind line) a cut h put = absurd (cc)
+  part-settles status.Spent a cut h put = absurd (cc)
+  part-settles (status.Away n) a cut h put = absurd (cc)
+  part-settles status.SourceFault a cut h put = absurd (cc)
+  part-settles status.InputFault a cut h put = absurd (cc)
+  part-settles status.OutputFault a cut h put =
+      let P : Answer → Type 0 = λ x. AppendsPart old new x.text in (h.0, h.1, subst P (sym h.2) put)
+  part-settles status.Memory a cut h put =
+      let P : Answer → Type 0 = λ x. AppendsPart old new x.text in (h.0, h.1, subst P (sym h.2) put)
+  part-settles status.Long a cut h put = absurd (cc)
+
+  -- an answer that is there whole settles what is expected
+  abbrev Whole-settles : Answer → Type 0
+  Whole-settles a = ForInput left (λ input. expected input ≡ a) → Appends old new a.text → SettlesBy expected left a.status old new
+
+  kept-settles : (c : Content) (n : ℕ) → Whole-settles (kept_of c n)
+  kept-settles Away n h put = (h.0, h.1, ([], h.2, put))
+  kept-settles Empty n h put = (h.0, h.1, (_, h.2, put))
+  kept-settles (Held c) n h put = (h.0, h.1, (_, h.2, put))
+
+  behind-settles : (t : Tree) (p : PlanOf) (images : List CargoList) (keep : Option ℕ) (numbers : List ℕ) → Whole-settles (answer_behind t p images keep numbers)
+  behind-settles t p images None numbers h put = (h.0, h.1, (_, h.2, put))
+  behind-settles t p images (Some k) numbers h put =
+      kept-settles (slice_index_or (told_behind t p images numbers).contents k Empty) (length numbers) h put
+
+  given-settles : (s : Status) (a : Answer) → Whole-settles a → ForInput left (λ input. expected input ≡ a) → PutsAnswer s a old new
+      → SettlesBy expected left s old new
+  given-settles s a whole h (inl put) = subst (λ (x : Status). SettlesBy expected left x old new) (sym put.0) (whole h put.1)
+  given-settles s a whole h (inr put) = part-settles s a put.0 h put.1
+
+-- it was, and what is answered behind it was given to the output
+pub put-settles : (t : Tree) (p : PlanOf) (images : List CargoList) (keep : Option ℕ) (left : Option (List ℕ)) (numbers : List ℕ) (s : Status)
     (old new : Option (List ℕ)) → ForInput left (λ input. schedule_of (length p.behaviours) input ≡ Whole numbers) →
-    PutLine s (text_behind t p images numbers) old new → SettlesBy (answer_with t p images) left s old new
-world-settles t p images left numbers status.Done old new h put =
-    (h.0, h.1, (text_behind t p images numbers, ap (said_with t p images) h.2, put))
-world-settles t p images left numbers (status.Refused f) old new h put = absurd put
-world-settles t p images left numbers status.Usage old new h put = put
-world-settles t p images left numbers (status.Trap kind line) old new h put = put
-world-settles t p images left numbers status.Spent old new h put = absurd put
-world-settles t p images left numbers status.SourceFault old new h put = put
-world-settles t p images left numbers status.InputFault old new h put = absurd put
-world-settles t p images left numbers status.OutputFault old new h put =
-    let P : Answer → Type 0 = λ a. AppendsPart old new a.text in (h.0, h.1, subst P (sym (ap (said_with t p images) h.2)) put)
-world-settles t p images left numbers status.Memory old new h put =
-    let P : Answer → Type 0 = λ a. AppendsPart old new a.text in (h.0, h.1, subst P (sym (ap (said_with t p images) h.2)) put)
-world-settles t p images left numbers status.Long old new h put = put
+    PutsAnswer s (answer_behind t p images keep numbers) old new → SettlesSchedule t p images keep left s old new
+put-settles t p images keep left numbers s old new h put =
+    given-settles (schedule_answer t p images keep) left old new s (answer_behind t p images keep numbers)
+    (behind-settles (schedule_answer t p images keep) left old new t p images keep numbers) (h.0, h.1, ap (said_answer t p images keep) h.2) put
 
 -- Causes
 
@@ -68,7 +127,7 @@ stop-output stop.Spent e = cc
 stop-output stop.InputFault e = cc
 stop-output stop.Memory e = cc
 
-pub stop-caused : (r : Result WorldIn SchedStop) (why : SchedStop) (i j o : ℕ) → r ≡ Err why → (r ≡ Err stop.InputFault → Rose i j) → i ≤ j → o ≤ o →
+pub stop-caused : (r : Result Behind SchedStop) (why : SchedStop) (i j o : ℕ) → r ≡ Err why → (r ≡ Err stop.InputFault → Rose i j) → i ≤ j → o ≤ o →
     CausedBeside (status_of why) i j o o
 stop-caused r why i j o is fault falls same = record {
   input_fault = λ e. fault (subst (λ (w : SchedStop). r ≡ Err w) (stop-input why e) is);

@@ -1,2 +1,3 @@
 -- Definitions that only the clauses of private functions name.
+pub mod Puts
 pub mod Stops

@@ -1,10 +1,12 @@
 -- What a plan with a schedule answers (docs/promises.md, "The headline").
-use Rattle.std.specs.Prelude.{◌≡◌, ℕ, List, [], length, replicate, Option}
+use Rattle.std.specs.Prelude.{◌≡◌, ℕ, List, [], length, slice_index_or, Option, None, Some}
 use Rattle.rg_base.specs.declared.fault.Code.TheVariants.{Schedule}
 use Rattle.rg_io.specs.Content.{Appends, AppendsPart}
 use Rattle.rg_tree.specs.Tree.{Class, Tree}
 use Rattle.rg_cown.specs.Cargo.{CargoList}
+use Rattle.rg_image.specs.ImageText.{image_text}
 use Rattle.rg_plan.specs.Plans.{PlanOf}
+use Rattle.rg_sched.specs.Contents.{Content, Away, Empty, Held}
 use Rattle.rg_sched.specs.Settings.{Setting, setting_of}
 use Rattle.rg_sched.specs.Atomic.{Told, World, atomic}
 use Rattle.rg_sched.specs.Events.{world_after}
@@ -27,27 +29,28 @@ told_behind t p images numbers =
 abbrev pub text_behind : Tree → PlanOf → (images : List CargoList) → (numbers : List ℕ) → List ℕ
 text_behind t p images numbers = world_text p (told_behind t p images numbers)
 
--- What a program with a plan answers to a schedule: the text of what is told behind all its numbers. Else nothing is written: at the first item that
--- is no number of a behaviour the schedule has a fault, and one that has more numbers than are taken is cut short.
-abbrev pub said_with : Tree → PlanOf → (images : List CargoList) → Said → Answer
-said_with t p images (Whole numbers) = record { status = status.Done; text = text_behind t p images numbers }
-said_with t p images (BadAt item) = refused (record { code = Schedule; line = item })
-said_with t p images TooLong = record { status = status.Spent; text = [] }
+-- What is kept of a cown behind so many numbers: the image of what it has. While a running behaviour has that, nothing is written, and the answer is how
+-- many numbers were taken.
+abbrev pub kept_of : Content → (taken : ℕ) → Answer
+kept_of Away n = record { status = status.Away n; text = [] }
+kept_of Empty n = record { status = status.Done; text = image_text None }
+kept_of (Held c) n = record { status = status.Done; text = image_text (Some c) }
+
+-- what is answered behind the numbers of a schedule: the text of what is told, or, where the content of a cown is kept, what is kept of it
+abbrev pub answer_behind : Tree → PlanOf → (images : List CargoList) → (keep : Option ℕ) → (numbers : List ℕ) → Answer
+answer_behind t p images None numbers = record { status = status.Done; text = text_behind t p images numbers }
+answer_behind t p images (Some k) numbers = kept_of (slice_index_or (told_behind t p images numbers).contents k Empty) (length numbers)
+
+-- What a program with a plan answers to a schedule: the answer behind all its numbers. Else nothing is written: at the first item that is no number of a
+-- behaviour the schedule has a fault, and one that has more numbers than are taken is cut short.
+abbrev pub said_answer : Tree → PlanOf → (images : List CargoList) → (keep : Option ℕ) → Said → Answer
+said_answer t p images keep (Whole numbers) = answer_behind t p images keep numbers
+said_answer t p images keep (BadAt item) = refused (record { code = Schedule; line = item })
+said_answer t p images keep TooLong = record { status = status.Spent; text = [] }
 
 -- the schedule is what the input says, the numbers of the plan's behaviours
-abbrev pub answer_with : Tree → PlanOf → (images : List CargoList) → (input : List ℕ) → Answer
-answer_with t p images input = said_with t p images (schedule_of (length p.behaviours) input)
-
--- the images of a plan that names none: for each cown a content, of which none counts
-abbrev pub no_images : PlanOf → List CargoList
-no_images p = replicate (length p.cowns) (record { cells = []; managers = [] })
-
--- the answers of a plan that names none
-abbrev pub said_answer : Tree → PlanOf → Said → Answer
-said_answer t p said = said_with t p (no_images p) said
-
-abbrev pub schedule_answer : Tree → PlanOf → (input : List ℕ) → Answer
-schedule_answer t p input = said_answer t p (schedule_of (length p.behaviours) input)
+abbrev pub schedule_answer : Tree → PlanOf → (images : List CargoList) → (keep : Option ℕ) → (input : List ℕ) → Answer
+schedule_answer t p images keep input = said_answer t p images keep (schedule_of (length p.behaviours) input)
 
 -- the answer is expected of the input, and its text was written
 abbrev pub Answered : (expected : List ℕ → Answer) → (left : Option (List ℕ)) → Status → (old new : Option (List ℕ)) → Type 0
@@ -65,18 +68,14 @@ SettlesBy expected left (status.Refused f) old new = Answered expected left (sta
 SettlesBy expected left status.Usage old new = ⊥
 SettlesBy expected left (status.Trap kind line) old new = ⊥
 SettlesBy expected left status.Spent old new = Answered expected left status.Spent old new
+SettlesBy expected left (status.Away n) old new = Answered expected left (status.Away n) old new
 SettlesBy expected left status.SourceFault old new = ⊥
 SettlesBy expected left status.InputFault old new = new ≡ old
 SettlesBy expected left status.OutputFault old new = AnsweredPart expected left old new
 SettlesBy expected left status.Memory old new = AnsweredPart expected left old new
 SettlesBy expected left status.Long old new = ⊥
 
--- the same of a plan that names no image
-abbrev pub Scheduled : Tree → PlanOf → (left : Option (List ℕ)) → Status → (old new : Option (List ℕ)) → Type 0
-Scheduled t p left s old new = Answered (schedule_answer t p) left s old new
-
-abbrev pub ScheduledPart : Tree → PlanOf → (left old new : Option (List ℕ)) → Type 0
-ScheduledPart t p left old new = AnsweredPart (schedule_answer t p) left old new
-
-abbrev pub SettlesSchedule : Tree → PlanOf → (left : Option (List ℕ)) → Status → (old new : Option (List ℕ)) → Type 0
-SettlesSchedule t p left s old new = SettlesBy (schedule_answer t p) left s old new
+-- the same of a program with a plan and the contents of its images
+abbrev pub SettlesSchedule : Tree → PlanOf → (images : List CargoList) → (keep : Option ℕ) → (left : Option (List ℕ)) → Status
+    → (old new : Option (List ℕ)) → Type 0
+SettlesSchedule t p images keep left s old new = SettlesBy (schedule_answer t p images keep) left s old new

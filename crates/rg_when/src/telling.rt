@@ -1,49 +1,96 @@
-//! What is told of a plan behind a schedule (docs/promises.md, "The headline").
+//! What is answered behind a schedule (docs/promises.md, "The headline").
 
-ghost use Rattle.std.specs.Prelude.{ℕ, List, IfOk, ◌≡◌};
+ghost use Rattle.std.specs.Prelude.{ℕ, List, length, ◌≡◌, ◌<◌, IfOk, IfSome};
 ghost use Rattle.rg_tree.specs.Tree.{Tree};
 ghost use Rattle.rg_code.specs.Code.{Code};
 ghost use Rattle.rg_cown.specs.Cargo.{CargoList};
-ghost use Rattle.rg_world.specs.Worlds.{IsBehind};
-ghost use Rattle.rg_words.specs.Answers.{PutLine, CausedByOutput};
-ghost use Rattle.rg_when.specs.Scheduled.{text_behind};
+ghost use Rattle.rg_slots.specs.Slots.{content_in};
+ghost use Rattle.rg_schedule.specs.Running.{IsCounted};
+ghost use Rattle.rg_words.specs.Answers.{CausedByOutput};
+ghost use Rattle.rg_when.specs.Scheduled.{kept_of, answer_behind};
+ghost use Rattle.rg_when.specs.Inner.Puts.{text_answer, PutsAnswer};
 
 use rg_base::{ByteList, Memory};
+use rg_image::encode;
 use rg_io::{Sink, put_all};
 use rg_plan::Plan;
 use rg_sched::{every_schedule_is_one_by_one, plans_are_settings};
+use rg_schedule::Behind;
+use rg_slots::Slot;
 use rg_words::Status;
-use rg_world::World;
 use rg_world_text::world_text;
 use std::alloc::Global;
 
-// The text of a world of a plan, which is that of behaviours that are done one after another.
-fn told_text(alloc: Global, plan: &Plan, world: &World) -> Result<ByteList, Memory>
-    requires { (t : Tree) × (code : Code) × (images : List CargoList) × (numbers : List ℕ)
-        × IsBehind t code plan.now images numbers world.now }
+// The image of what a cown has; None while a running behaviour has that.
+fn kept_text(alloc: Global, slot: &Slot) -> Result<Option<ByteList>, Memory>
+    ensures { (taken : ℕ) → IfOk result (λ text. text_answer text taken
+        ≡ kept_of (content_in slot.now) taken) }
+{
+    match slot {
+        Slot::Away => Ok(None),
+        Slot::Empty => {
+            let image = encode(alloc, None)?;
+            Ok(Some(image))
+        }
+        Slot::Held(cargo) => {
+            let image = encode(alloc, Some(cargo))?;
+            Ok(Some(image))
+        }
+    }
+}
+
+// The text of the world behind a schedule, which is that of behaviours that are done one after
+// another, or the image of what a cown has there; None while a running behaviour has that.
+fn told_text(
+    alloc: Global,
+    plan: &Plan,
+    behind: &Behind,
+    keep: Option<u32>,
+) -> Result<Option<ByteList>, Memory>
+    requires keep { IfSome keep (λ k. k < length plan.now.cowns) }
+    requires behind { (t : Tree) × (code : Code) × (images : List CargoList)
+        × (numbers : List ℕ) × IsCounted t code plan.now images numbers behind.now }
     ensures { (t : Tree) (code : Code) (images : List CargoList) (numbers : List ℕ) →
-        IsBehind t code plan.now images numbers world.now →
-        IfOk result (λ text. text ≡ text_behind t plan.now images numbers) }
+        IsCounted t code plan.now images numbers behind.now → IfOk result (λ text.
+        text_answer text behind.now.taken ≡ answer_behind t plan.now images keep numbers) }
 {
     plans_are_settings();
     every_schedule_is_one_by_one();
-    world_text(alloc, plan, world)
+    let Some(cown) = keep else {
+        let text = world_text(alloc, plan, &behind.world)?;
+        return Ok(Some(text));
+    };
+    kept_text(alloc, behind.world.content(cown))
 }
 
-/// Gives the text of a world of a plan to the output.
-pub(crate) fn put_world<O: Sink>(alloc: Global, plan: &Plan, world: &World, out: &mut O) -> Status
-    requires { (t : Tree) × (code : Code) × (images : List CargoList) × (numbers : List ℕ)
-        × IsBehind t code plan.now images numbers world.now }
+/// Gives to the output what is answered behind a schedule: the text of its world, or the image of
+/// what a cown has there, or nothing while a running behaviour has that.
+pub(crate) fn put_behind<O: Sink>(
+    alloc: Global,
+    plan: &Plan,
+    behind: &Behind,
+    keep: Option<u32>,
+    out: &mut O,
+) -> Status
+    requires keep { IfSome keep (λ k. k < length plan.now.cowns) }
+    requires behind { (t : Tree) × (code : Code) × (images : List CargoList)
+        × (numbers : List ℕ) × IsCounted t code plan.now images numbers behind.now }
     ensures put { (t : Tree) (code : Code) (images : List CargoList) (numbers : List ℕ) →
-        IsBehind t code plan.now images numbers world.now →
-        PutLine result (text_behind t plan.now images numbers) (O.taken out.old) (O.taken out.new) }
+        IsCounted t code plan.now images numbers behind.now →
+        PutsAnswer result (answer_behind t plan.now images keep numbers)
+        (O.taken out.old) (O.taken out.new) }
     ensures caused { CausedByOutput result (O.faults out.old) (O.faults out.new) }
 {
-    match told_text(alloc, plan, world) {
-        Err(_) => Status::Memory,
-        Ok(text) => match put_all(out, text.bytes()) {
-            Ok(()) => Status::Done,
-            Err(_) => Status::OutputFault,
-        },
+    let Ok(told) = told_text(alloc, plan, behind, keep) else {
+        return Status::Memory;
+    };
+    let Some(text) = told else {
+        return Status::Away {
+            taken: behind.taken,
+        };
+    };
+    match put_all(out, text.bytes()) {
+        Ok(()) => Status::Done,
+        Err(_) => Status::OutputFault,
     }
 }

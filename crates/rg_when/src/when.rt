@@ -1,14 +1,14 @@
 //! Runs the behaviours of a plan by the schedule on the input (docs/promises.md, "The headline").
 
-ghost use Rattle.std.specs.Prelude.{◌≡◌, IfOk};
+ghost use Rattle.std.specs.Prelude.{◌<◌, length, IfSome};
 ghost use Rattle.rg_tree.specs.Rows.RowTrees.{program_of};
 ghost use Rattle.rg_world.specs.Worlds.{IsReadFor};
+ghost use Rattle.rg_step.specs.Pacers.{SameTuned, both};
 ghost use Rattle.rg_words.specs.Answers.{CausedBeside};
-ghost use Rattle.rg_when.specs.Scheduled.{no_images, answer_with, SettlesBy, SettlesSchedule};
+ghost use Rattle.rg_when.specs.Scheduled.{SettlesSchedule};
 
 use crate::stops::status_of;
-use crate::telling::put_world;
-use rg_base::Memory;
+use crate::telling::put_behind;
 use rg_check::Accepted;
 use rg_cown::Cargo;
 use rg_input::Numbers;
@@ -16,55 +16,39 @@ use rg_io::{Sink, Source};
 use rg_lower::lower;
 use rg_pace::Pacer;
 use rg_plan::Plan;
-use rg_schedule::run;
+use rg_schedule::run_counted;
 use rg_words::Status;
 use std::alloc::Global;
 
-/// Runs the behaviours of a plan by the schedule on the input, and gives the text of the world
-/// behind it to the output.
+/// Runs the behaviours of a plan by the schedule on the input, where its cowns begin with these
+/// contents, of which those count whose line names an image. Gives the text of the world behind it
+/// to the output, or, where the content of a cown is kept, the image of what that cown has there. It
+/// asks the pacers, and tunes none.
 pub fn run_planned<I: Source, O: Sink>(
     alloc: Global,
     accepted: &Accepted,
     plan: &Plan,
-    input: &mut I,
-    out: &mut O,
-    count: &mut dyn Pacer,
-    trace: &mut dyn Pacer,
-) -> Status
-    requires { IsReadFor (program_of accepted.now.program) plan.now (no_images plan.now) }
-    ensures settles { SettlesSchedule (program_of accepted.now.program) plan.now
-        (I.left input.old) result (O.taken out.old) (O.taken out.new) }
-    ensures caused { CausedBeside result (I.faults input.old) (I.faults input.new)
-        (O.faults out.old) (O.faults out.new) }
-{
-    let Ok(images) = no_images(alloc, plan) else {
-        return Status::Memory;
-    };
-    run_with(alloc, accepted, plan, images, input, out, count, trace)
-}
-
-// Does that where the cowns of a plan begin with these images.
-fn run_with<I: Source, O: Sink>(
-    alloc: Global,
-    accepted: &Accepted,
-    plan: &Plan,
     images: Vec<Cargo>,
+    keep: Option<u32>,
     input: &mut I,
     out: &mut O,
     count: &mut dyn Pacer,
     trace: &mut dyn Pacer,
 ) -> Status
-    requires { IsReadFor (program_of accepted.now.program) plan.now images.items }
-    ensures settles { SettlesBy (answer_with (program_of accepted.now.program) plan.now images.items)
+    requires read { IsReadFor (program_of accepted.now.program) plan.now images.items }
+    requires keep { IfSome keep (λ k. k < length plan.now.cowns) }
+    ensures settles { SettlesSchedule (program_of accepted.now.program) plan.now images.items keep
         (I.left input.old) result (O.taken out.old) (O.taken out.new) }
     ensures caused { CausedBeside result (I.faults input.old) (I.faults input.new)
         (O.faults out.old) (O.faults out.new) }
+    ensures tuned { SameTuned (both (tally count.old) (tally trace.old))
+        (both (tally count.new) (tally trace.new)) }
 {
     let Ok(code) = lower(alloc, accepted) else {
         return Status::Memory;
     };
     let mut numbers = Numbers::new();
-    let ran = run(
+    let ran = run_counted(
         alloc,
         accepted,
         &code,
@@ -76,20 +60,7 @@ fn run_with<I: Source, O: Sink>(
         trace,
     );
     match ran {
-        Ok(world) => put_world(alloc, plan, &world, out),
+        Ok(behind) => put_behind(alloc, plan, &behind, keep, out),
         Err(stop) => status_of(stop),
     }
-}
-
-// For each cown of a plan a content of an image, of which none counts.
-fn no_images(alloc: Global, plan: &Plan) -> Result<Vec<Cargo>, Memory>
-    ensures { IfOk result (λ images. images.items ≡ no_images plan.now) }
-{
-    let mut images = Vec::new(alloc);
-    for n in 0..plan.cowns() {
-        let Ok(()) = images.push(Cargo::new(alloc)) else {
-            return Err(Memory);
-        };
-    }
-    Ok(images)
 }
