@@ -108,6 +108,7 @@ generated-stops size source left status.Usage old new m still n i h = h
 generated-stops size source left (status.Trap kind line) old new m still n i h =
     stopped-generated size source (status.Trap kind line) old new m still n h
 generated-stops size source left status.Spent old new m still n i h = stopped-generated size source status.Spent old new m still n h
+generated-stops size source left (status.Away k) old new m still n i h = absurd h
 generated-stops size source left status.SourceFault old new m still n i h = h
 generated-stops size source left status.InputFault old new m still n i h = absurd (i refl)
 generated-stops size source left status.OutputFault old new m still n i h = cut-either size source old new m still h
@@ -148,6 +149,7 @@ module _ (size : ℕ) (source : Sources) (old mid new : Option (List ℕ)) (m : 
   generated-ends left status.Usage h = h
   generated-ends left (status.Trap kind line) h = absurd h
   generated-ends left status.Spent h = absurd h
+  generated-ends left (status.Away k) h = absurd h
   generated-ends left status.SourceFault h = h
   generated-ends left status.InputFault h = absurd h
   generated-ends left status.OutputFault h = inr (ends-part h)

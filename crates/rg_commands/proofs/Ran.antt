@@ -186,6 +186,7 @@ run-settles slides file n every report source left (status.Refused f) old new m 
 run-settles slides file n every report source left status.Usage old new m still h = h
 run-settles slides file n every report source left (status.Trap kind line) old new m still h = h
 run-settles slides file n every report source left status.Spent old new m still h = h
+run-settles slides file n every report source left (status.Away k) old new m still h = absurd h
 run-settles slides file n every report source left status.SourceFault old new m still h = h
 run-settles slides file n every report source left status.InputFault old new m still h = h
 run-settles slides file n every report source left status.OutputFault old new m still h = h
@@ -201,6 +202,7 @@ exec-settles file n every report source left (status.Refused f) old new m still 
 exec-settles file n every report source left status.Usage old new m still h = h
 exec-settles file n every report source left (status.Trap kind line) old new m still h = h
 exec-settles file n every report source left status.Spent old new m still h = h
+exec-settles file n every report source left (status.Away k) old new m still h = absurd h
 exec-settles file n every report source left status.SourceFault old new m still h = h
 exec-settles file n every report source left status.InputFault old new m still h = h
 exec-settles file n every report source left status.OutputFault old new m still h = h

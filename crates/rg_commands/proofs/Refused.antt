@@ -3,6 +3,7 @@ use Rattle.std.proofs.Common.{◌≢◌, ℕ, inl, inr, List, Option, refl}
 use Rattle.std.proofs.Common.{subst, arith}
 use Rattle.rg_io.specs.Files.{Told}
 use Rattle.rg_tree.specs.Tree.{Tree}
+use Rattle.rg_cown.specs.Cargo.{CargoList}
 use Rattle.rg_plan.specs.Plans.{PlanOf}
 use Rattle.rg_run.specs.Machine.{Kept, IsFresh}
 use Rattle.rg_words.specs.declared.status.Status.{Status}
@@ -22,6 +23,7 @@ refuses-settles told c (status.Refused f) left old m still h fresh quiet = inl (
 refuses-settles told c status.Usage left old m still h fresh quiet = absurd h
 refuses-settles told c (status.Trap kind line) left old m still h fresh quiet = absurd h
 refuses-settles told c status.Spent left old m still h fresh quiet = absurd h
+refuses-settles told c (status.Away n) left old m still h fresh quiet = absurd h
 refuses-settles told c status.SourceFault left old m still h fresh quiet = inr (inl (source_fault, (fresh, refl, quiet)))
 refuses-settles told c status.InputFault left old m still h fresh quiet = absurd h
 refuses-settles told c status.OutputFault left old m still h fresh quiet = absurd h
@@ -49,9 +51,10 @@ caused-unread s i o p n m c = record {
 }
 
 -- what was answered to a schedule is no fault of a file
-pub schedule-inside : (t : Tree) (p : PlanOf) (left : Option (List ℕ)) (s : Status) (old new : Option (List ℕ)) →
-    SettlesSchedule t p left s old new → s ≢ status.SourceFault
-schedule-inside t p left s old new h e = let P : Status → Type 0 = λ x. SettlesSchedule t p left x old new in absurd (subst P e h)
+pub schedule-inside : (t : Tree) (p : PlanOf) (images : List CargoList) (keep : Option ℕ) (left : Option (List ℕ)) (s : Status)
+    (old new : Option (List ℕ)) → SettlesSchedule t p images keep left s old new → s ≢ status.SourceFault
+schedule-inside t p images keep left s old new h e =
+    let P : Status → Type 0 = λ x. SettlesSchedule t p images keep left x old new in absurd (subst P e h)
 
 -- what was answered to a source is no fault of a file
 pub settles-inside : (c : Command) (source : Sources) (left : Option (List ℕ)) (s : Status) (old new : Option (List ℕ)) (m : Kept) (still : Type 0) →

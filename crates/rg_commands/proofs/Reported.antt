@@ -46,6 +46,7 @@ quiet-refuses true told origin (status.Refused f) m old fresh h = refl
 quiet-refuses true told origin status.Usage m old fresh h = refl
 quiet-refuses true told origin (status.Trap kind line) m old fresh h = absurd h
 quiet-refuses true told origin status.Spent m old fresh h = absurd h
+quiet-refuses true told origin (status.Away n) m old fresh h = absurd h
 quiet-refuses true told origin status.SourceFault m old fresh h = refl
 quiet-refuses true told origin status.InputFault m old fresh h = absurd h
 quiet-refuses true told origin status.OutputFault m old fresh h = absurd h

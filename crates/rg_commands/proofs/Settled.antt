@@ -81,7 +81,7 @@ module _ (source : Sources) (left old new : Option (List ℕ)) (m : Kept) (still
   untouched-still (pack file) (inr h) e = inr h
   untouched-still (bulk size) (inr h) e = inr h
   untouched-still (exec file n every report) (inr h) e = absurd (no_lie e)
-  untouched-still (when file plan) (inr h) e = absurd (no_lie e)
+  untouched-still (when file plan keep) (inr h) e = absurd (no_lie e)
 
   well-still : (c : Command) → EndsWell c source left old new m (Unit {0}) → reads_input c ≡ false → EndsWell c source left old new m still
   well-still (run slides file n every report) h e = absurd (no_lie e)
@@ -92,7 +92,7 @@ module _ (source : Sources) (left old new : Option (List ℕ)) (m : Kept) (still
   well-still (pack file) h e = h
   well-still (bulk size) h e = h
   well-still (exec file n every report) h e = absurd (no_lie e)
-  well-still (when file plan) h e = absurd h
+  well-still (when file plan keep) h e = absurd h
 
   stops-still : (c : Command) (s : Status) → StopsRun c source left s old new m (Unit {0}) → reads_input c ≡ false →
       StopsRun c source left s old new m still
@@ -104,7 +104,7 @@ module _ (source : Sources) (left old new : Option (List ℕ)) (m : Kept) (still
   stops-still (pack file) s h e = absurd h
   stops-still (bulk size) s h e = h
   stops-still (exec file n every report) s h e = absurd (no_lie e)
-  stops-still (when file plan) s h e = absurd h
+  stops-still (when file plan keep) s h e = absurd h
 
   pub settles-still : (c : Command) (s : Status) → reads_input c ≡ false → Settles c source left s old new m (Unit {0}) →
       Settles c source left s old new m still
@@ -113,6 +113,7 @@ module _ (source : Sources) (left old new : Option (List ℕ)) (m : Kept) (still
   settles-still c status.Usage e h = h
   settles-still c (status.Trap kind line) e h = stops-still c (status.Trap kind line) h e
   settles-still c status.Spent e h = stops-still c status.Spent h e
+  settles-still c (status.Away n) e h = absurd h
   settles-still c status.SourceFault e h = h
   settles-still c status.InputFault e h = h
   settles-still c status.OutputFault e h = untouched-still c h e

@@ -36,7 +36,7 @@ abbrev pub input_for : Origin → List ℕ → List ℕ
 input_for (in_file file) input = input
 input_for (generated size) input = []
 input_for (in_module file) input = input
-input_for (with_plan file plan) input = input
+input_for (with_plan file plan keep) input = input
 
 -- no run has begun, and no pacer was asked
 pub record Unasked (m : Kept) (count_old count_new trace_old trace_new : ℕ) : Type 0 where

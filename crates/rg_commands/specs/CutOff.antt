@@ -14,6 +14,7 @@ use Rattle.rg_run.specs.Machine.{Kept, IsFresh, numbers_of}
 use Rattle.rg_run.specs.Sound.{IsSound, Stands, NeverAsks}
 use Rattle.rg_words.specs.Commands.{Command, run, plain, fmt, check, code, pack, bulk, exec, when, in_file, generated, in_module}
 use Rattle.rg_words.specs.Commands.{with_plan}
+use Rattle.rg_cown.specs.Cargo.{CargoList}
 use Rattle.rg_plan.specs.Plans.{PlanOf}
 use Rattle.rg_sources.specs.Sources.{Sources, spelt, planned, MeansFrom, Runs}
 use Rattle.rg_when.specs.Scheduled.{schedule_answer}
@@ -57,9 +58,9 @@ CutOffAt (exec file n every report) source input m old new still =
     (t : Tables) × Runs (in_module file) source (program_of t)
     × StandsAfter t input n m.steps m (added t (opening (program_of t) input) m.steps) old new
     × (NeverAsks (program_of t) input n → still)
-CutOffAt (when file plan) source input m old new still =
-    (t : Tree) × (p : PlanOf) × MeansFrom (with_plan file plan) source (planned t p) × IsFresh m
-    × AppendsPart old new (schedule_answer t p input).text
+CutOffAt (when file plan keep) source input m old new still =
+    (t : Tree) × (p : PlanOf) × (images : List CargoList) × MeansFrom (with_plan file plan keep) source (planned t p images) × IsFresh m
+    × AppendsPart old new (schedule_answer t p images keep input).text
 
 -- a run of n steps has made k whole ones, the next asks for the input, and the output has taken the text of all k
 pub record AsksAfter (t : Tree) (input : List ℕ) (n k : ℕ) (old new : Option (List ℕ)) : Type 0 where
@@ -82,5 +83,6 @@ CutAtInput (pack file) source input m old new = ⊥
 CutAtInput (bulk size) source input m old new = ⊥
 CutAtInput (exec file n every report) source input m old new =
     (t : Tables) × Runs (in_module file) source (program_of t) × Stands t input m.steps m × AsksAfter (program_of t) input n m.steps old new
-CutAtInput (when file plan) source input m old new =
-    (t : Tree) × (p : PlanOf) × MeansFrom (with_plan file plan) source (planned t p) × IsFresh m × (new ≡ old)
+CutAtInput (when file plan keep) source input m old new =
+    (t : Tree) × (p : PlanOf) × (images : List CargoList) × MeansFrom (with_plan file plan keep) source (planned t p images) × IsFresh m
+    × (new ≡ old)

@@ -16,7 +16,7 @@ use Rattle.rg_module.specs.Spelling.{spelling}
 use Rattle.rg_build.specs.ModuleOf.{module_of}
 use Rattle.rg_words.specs.declared.status.Status.{Status}
 use Rattle.rg_words.specs.declared.status.Status.TheVariants as status
-use Rattle.rg_words.specs.Commands.{Command, run, plain, fmt, check, code, pack, bulk, exec, when, origin_of}
+use Rattle.rg_words.specs.Commands.{Command, run, plain, fmt, check, code, pack, bulk, exec, when, origin_of, keep_of}
 use Rattle.rg_words.specs.Answers.{Answer, refused}
 use Rattle.rg_sources.specs.Sources.{Sources, Meaning, too_long, faulty, spelt, planned, MeansFrom}
 use Rattle.rg_when.specs.Scheduled.{schedule_answer}
@@ -70,7 +70,7 @@ bulk_answer size numbers t input n = record {
 abbrev pub expected : Command → EndNumbers → (input : List ℕ) → Meaning → Answer
 expected c numbers input too_long = record { status = status.Long; text = [] }
 expected c numbers input (faulty f) = refused f
-expected c numbers input (planned t p) = schedule_answer t p input
+expected c numbers input (planned t p images) = schedule_answer t p images (keep_of c) input
 expected (run slides file n every report) numbers input (spelt t) = unless_fault (first_fault t) (run_answer t input n)
 expected (plain file n) numbers input (spelt t) = unless_fault (first_fault t) (run_answer t input n)
 expected (fmt file) numbers input (spelt t) = record { status = status.Done; text = canon t }
@@ -79,7 +79,7 @@ expected (code file) numbers input (spelt t) = unless_fault (first_fault t) (rec
 expected (pack file) numbers input (spelt t) = unless_fault (first_fault t) (record { status = status.Done; text = packed_text t })
 expected (bulk size) numbers input (spelt t) = bulk_answer size numbers t [] MOST_STEPS
 expected (exec file n every report) numbers input (spelt t) = unless_fault (first_fault t) (run_answer t input n)
-expected (when file plan) numbers input (spelt t) = record { status = status.Done; text = [] }
+expected (when file plan keep) numbers input (spelt t) = record { status = status.Done; text = [] }
 
 -- the command answers that to the source, on the input, where the machine has those numbers
 abbrev pub Expects : Command → EndNumbers → (source : Sources) (input : List ℕ) → Status → (text : List ℕ) → Type 0

@@ -2,13 +2,14 @@
 use Rattle.std.specs.Prelude.{◌≡◌, ℕ, Bool, false, List, Option}
 use Rattle.rg_pace.specs.Asked.{Asked}
 use Rattle.rg_run.specs.Machine.{IsFresh}
+use Rattle.rg_step.specs.Pacers.{SameTuned, both}
 use Rattle.rg_commands.specs.declared.setting.Setting.{Setting}
 use Rattle.rg_words.specs.declared.status.Status.{Status}
 use Rattle.rg_words.specs.Commands.{Command, Origin, reports}
 use Rattle.rg_io.specs.Files.{Told}
 use Rattle.rg_sources.specs.Sources.{Sources}
 use Rattle.rg_commands.specs.Settled.{RanFrom, Settles, SettlesCommand, Reported, Caused}
-use Rattle.rg_commands.specs.Tallies.{TunedAsBefore, SayYesOf}
+use Rattle.rg_commands.specs.Tallies.{SayYesOf}
 
 -- no run has begun on its machine, and what is kept doesn't move there
 pub record IsUnused {O R : Type 0} (s : Setting O R) : Type 0 where
@@ -32,7 +33,7 @@ SlidesTo slides s = s.machine.now.stepper.slides ≡ slides
 -- a run on its machine tuned no pacer, and each yes was a collection
 abbrev pub PacedIn : {O R : Type 0} → Setting O R → (count_old count_new trace_old trace_new : Asked) → Type 0
 PacedIn s count_old count_new trace_old trace_new =
-    TunedAsBefore count_old count_new trace_old trace_new × SayYesOf s.machine.now count_old count_new trace_old trace_new
+    SameTuned (both count_old trace_old) (both count_new trace_new) × SayYesOf s.machine.now count_old count_new trace_old trace_new
 
 -- what a run on its machine has answered, and given to its output
 abbrev pub RanIn : {O R : Type 0} → (O → Option (List ℕ)) → Origin → (n : ℕ) → (source : Sources) → (left : Option (List ℕ)) → Status

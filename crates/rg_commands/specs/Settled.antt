@@ -24,12 +24,13 @@ use Rattle.rg_words.specs.declared.status.Status.{Status}
 use Rattle.rg_words.specs.declared.status.Status.TheVariants as status
 use Rattle.rg_words.specs.Commands.{Command, run, plain, fmt, check, code, pack, bulk, exec, when, Origin, in_file, generated, in_module}
 use Rattle.rg_words.specs.Commands.{origin_of}
-use Rattle.rg_words.specs.Commands.{every_of, runs_on, is_slide}
+use Rattle.rg_words.specs.Commands.{every_of, runs_on, is_slide, keep_of}
 use Rattle.rg_words.specs.Answers.{HasInput, ForInput}
 use Rattle.rg_when.specs.Scheduled.{SettlesSchedule}
 use Rattle.rg_sources.specs.Sources.{Sources, too_long, faulty, spelt, planned, HasSource, MeansFrom, Means, Runs}
 use Rattle.rg_commands.specs.Expected.{status_of, accepted_text, listed_text, packed_text, text_after, line_behind}
 use Rattle.rg_commands.specs.CutOff.{Untouched, StandsAfter, AsksAfter, CutOffAt, CutAtInput}
+use Rattle.rg_cown.specs.Cargo.{CargoList}
 use Rattle.rg_plan.specs.Plans.{PlanOf}
 
 -- the status of a run
@@ -73,6 +74,7 @@ RanFrom origin n source left (status.Refused f) old new m still = ⊥
 RanFrom origin n source left status.Usage old new m still = ⊥
 RanFrom origin n source left (status.Trap kind line) old new m still = RanWhole origin n source left (status.Trap kind line) old new m still
 RanFrom origin n source left status.Spent old new m still = RanWhole origin n source left status.Spent old new m still
+RanFrom origin n source left (status.Away k) old new m still = ⊥
 RanFrom origin n source left status.SourceFault old new m still = ⊥
 RanFrom origin n source left status.InputFault old new m still = ForInput left (λ input. RunCutAtInput origin n source input m old new)
 RanFrom origin n source left status.OutputFault old new m still =
@@ -142,7 +144,7 @@ EndsWell (code file) source left old new m still = Listed file source old new m
 EndsWell (pack file) source left old new m still = Packed file source old new m
 EndsWell (bulk size) source left old new m still = RanGenerated size source status.Done old new m
 EndsWell (exec file n every report) source left old new m still = RanWhole (in_module file) n source left status.Done old new m still
-EndsWell (when file plan) source left old new m still = ⊥
+EndsWell (when file plan keep) source left old new m still = ⊥
 
 -- a run that didn't
 abbrev pub StopsRun : Command → (source : Sources) → (left : Option (List ℕ)) → Status → (old new : Option (List ℕ)) → Kept → (still : Type 0) → Type 0
@@ -154,7 +156,7 @@ StopsRun (code file) source left s old new m still = ⊥
 StopsRun (pack file) source left s old new m still = ⊥
 StopsRun (bulk size) source left s old new m still = RanGenerated size source s old new m
 StopsRun (exec file n every report) source left s old new m still = RanWhole (in_module file) n source left s old new m still
-StopsRun (when file plan) source left s old new m still = ⊥
+StopsRun (when file plan keep) source left s old new m still = ⊥
 
 -- the tree that the source spells has that first fault
 abbrev pub HasFault : Sources → Fault → Type 0
@@ -170,7 +172,7 @@ IsFaulted (code file) source f = HasFault source f
 IsFaulted (pack file) source f = HasFault source f
 IsFaulted (bulk size) source f = ⊥
 IsFaulted (exec file n every report) source f = ⊥
-IsFaulted (when file plan) source f = ⊥
+IsFaulted (when file plan keep) source f = ⊥
 
 -- a command that was cut off by the output or for want of memory; one that reads no input has none
 abbrev pub CutOff : Command → (source : Sources) → (left old new : Option (List ℕ)) → Kept → (still : Type 0) → Type 0
@@ -184,7 +186,7 @@ CutOff (pack file) source left old new m still = CutOffAt (pack file) source [] 
 CutOff (bulk size) source left old new m still = CutOffAt (bulk size) source [] m old new still
 CutOff (exec file n every report) source left old new m still = ForInput left
     (λ input. CutOffAt (exec file n every report) source input m old new still)
-CutOff (when file plan) source left old new m still = ForInput left (λ input. CutOffAt (when file plan) source input m old new still)
+CutOff (when file plan keep) source left old new m still = ForInput left (λ input. CutOffAt (when file plan keep) source input m old new still)
 
 -- what was answered to a source; what `when` answers to a schedule is said below
 abbrev pub Settles : Command → (source : Sources) → (left : Option (List ℕ)) → Status → (old new : Option (List ℕ)) → Kept → (still : Type 0) → Type 0
@@ -194,6 +196,7 @@ Settles c source left (status.Refused f) old new m still =
 Settles c source left status.Usage old new m still = ⊥
 Settles c source left (status.Trap kind line) old new m still = StopsRun c source left (status.Trap kind line) old new m still
 Settles c source left status.Spent old new m still = StopsRun c source left status.Spent old new m still
+Settles c source left (status.Away n) old new m still = ⊥
 Settles c source left status.SourceFault old new m still = ⊥
 Settles c source left status.InputFault old new m still = ForInput left (λ input. CutAtInput c source input m old new)
 Settles c source left status.OutputFault old new m still = Untouched m old new still ⊎ CutOff c source left old new m still
@@ -211,8 +214,9 @@ pub record RanSchedule (told : Option Told) (c : Command) (left : Option (List �
   pub has : HasSource told (origin_of c) source
   pub tree : Tree
   pub plan : PlanOf
-  pub means : MeansFrom (origin_of c) source (planned tree plan)
-  pub settles : SettlesSchedule tree plan left s old new
+  pub images : List CargoList
+  pub means : MeansFrom (origin_of c) source (planned tree plan images)
+  pub settles : SettlesSchedule tree plan images (keep_of c) left s old new
   pub fresh : IsFresh m
 
 -- what was answered to a command, with a source that its program has
@@ -239,6 +243,7 @@ Reported true (status.Refused f) events old new = new ≡ old
 Reported true status.Usage events old new = new ≡ old
 Reported true (status.Trap kind line) events old new = Appends old new (event_lines events)
 Reported true status.Spent events old new = Appends old new (event_lines events)
+Reported true (status.Away n) events old new = new ≡ old
 Reported true status.SourceFault events old new = new ≡ old
 Reported true status.InputFault events old new = Appends old new (event_lines events)
 Reported true status.OutputFault events old new = (text : List ℕ) × AreCutLines events text × Appends old new text

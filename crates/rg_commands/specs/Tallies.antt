@@ -12,10 +12,6 @@ use Rattle.rg_words.specs.Commands.{Origin}
 abbrev pub TunedTo : ℕ → (count trace : Asked) → Type 0
 TunedTo every count trace = (count.tuned ≡ every) × (trace.tuned ≡ every)
 
--- both are tuned as before
-abbrev pub TunedAsBefore : (count_old count_new trace_old trace_new : Asked) → Type 0
-TunedAsBefore count_old count_new trace_old trace_new = (count_new.tuned ≡ count_old.tuned) × (trace_new.tuned ≡ trace_old.tuned)
-
 -- how often a run of a program that comes from there asked them
 abbrev pub RunAskedOf : Origin → (source : Sources) → (left : Option (List ℕ)) → Kept → (count_old count_new trace_old trace_new : Asked) → Type 0
 RunAskedOf origin source left m count_old count_new trace_old trace_new =

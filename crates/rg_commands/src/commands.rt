@@ -3,8 +3,9 @@
 ghost use Rattle.std.specs.Prelude.{◌≡◌, ◌≤◌, ℕ, List, false};
 ghost use Rattle.rg_tree.specs.Rows.RowTrees.{program_of};
 ghost use Rattle.rg_io.specs.Content.{Rose};
+ghost use Rattle.rg_step.specs.Pacers.{SameTuned, both};
 ghost use Rattle.rg_words.specs.Commands.{origin_of, opens_file, reads_input, is_slide};
-ghost use Rattle.rg_words.specs.Commands.{is_scheduled};
+ghost use Rattle.rg_words.specs.Commands.{runs_on, is_scheduled};
 ghost use Rattle.rg_words.specs.Requests.{command_of, command_for, AsksWithin, TaskWithin};
 ghost use Rattle.rg_sources.specs.Sources.{Sources, spelt, MeansFrom};
 ghost use Rattle.rg_sources.specs.Brings.{Serves};
@@ -49,6 +50,9 @@ impl<O: Sink, R: Sink> Setting<'_, O, R> {
         ensures notes { ReportedOf R.taken (command_of request.entry) result self.old self.new }
         ensures tuned { Tunes (command_of request.entry) self.new.machine.now
             (tally count.new).tuned (tally trace.new).tuned }
+        ensures untuned { runs_on (command_of request.entry) ≡ false →
+            SameTuned (both (tally count.old) (tally trace.old))
+            (both (tally count.new) (tally trace.new)) }
         ensures yeses { SayYesOf self.new.machine.now
             (tally count.old) (tally count.new) (tally trace.old) (tally trace.new) }
         ensures caused { CausedIn O.faults R.faults result (I.faults input.old) (I.faults input.new)
@@ -88,6 +92,9 @@ impl<O: Sink, R: Sink> Setting<'_, O, R> {
         ensures notes { ReportedOf R.taken (command_of request.entry) result self.old self.new }
         ensures tuned { Tunes (command_of request.entry) self.new.machine.now
             (tally count.new).tuned (tally trace.new).tuned }
+        ensures untuned { runs_on (command_of request.entry) ≡ false →
+            SameTuned (both (tally count.old) (tally trace.old))
+            (both (tally count.new) (tally trace.new)) }
         ensures slides { Chooses (command_of request.entry) self.new.machine.now }
         ensures asked { AskedCommandOf (F.told files.old) (origin_of (command_of request.entry))
             (I.left input.old) self.new.machine.now
@@ -127,6 +134,9 @@ impl<O: Sink, R: Sink> Setting<'_, O, R> {
         ensures notes { ReportedOf R.taken (command_for task.entry) result self.old self.new }
         ensures tuned { Tunes (command_for task.entry) self.new.machine.now
             (tally count.new).tuned (tally trace.new).tuned }
+        ensures untuned { runs_on (command_for task.entry) ≡ false →
+            SameTuned (both (tally count.old) (tally trace.old))
+            (both (tally count.new) (tally trace.new)) }
         ensures slides { Chooses (command_for task.entry) self.new.machine.now }
         ensures asked { is_scheduled (command_for task.entry) ≡ false →
             AskedCommandOf (F.told files.old) (origin_of (command_for task.entry))
@@ -147,8 +157,8 @@ impl<O: Sink, R: Sink> Setting<'_, O, R> {
             Task::OfModule { file, options } => {
                 self.answer_module(file, options, files, input, count, trace)
             }
-            Task::OfPlan { file, plan } => {
-                self.answer_plan(file, plan, files, input, count, trace)
+            Task::OfPlan { file, plan, keep } => {
+                self.answer_plan(file, plan, keep, files, input, count, trace)
             }
         }
     }

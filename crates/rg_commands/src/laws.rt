@@ -4,6 +4,7 @@
 ghost use Rattle.rg_commands.specs.Laws.{OneAnswer};
 
 use rg_lines::same_runs;
+use rg_loading::loads_come_to_one;
 use rg_module::at_most_one_module;
 use rg_verified::raised_alike;
 
@@ -14,4 +15,5 @@ pub fn answers_are_one()
     same_runs();
     at_most_one_module();
     raised_alike();
+    loads_come_to_one();
 }

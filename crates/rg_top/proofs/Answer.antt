@@ -9,7 +9,8 @@ use Rattle.rg_io.proofs.Content.{Rose-since}
 use Rattle.rg_run.specs.Machine.{Kept, numbers_of}
 use Rattle.rg_words.specs.declared.status.Status.{Status}
 use Rattle.rg_words.specs.declared.status.Status.TheVariants as status
-use Rattle.rg_words.specs.Commands.{Command, command, origin_of, reads_input, may_read, opens_file, may_open, may_schedule, steps_of}
+use Rattle.rg_words.specs.Commands.{Command, command, origin_of, runs_on, may_run, reads_input, may_read, opens_file, may_open}
+use Rattle.rg_words.specs.Commands.{may_schedule, steps_of}
 use Rattle.rg_words.specs.Statuses.{is_answer, is_refusal, is_cut_off, is_from_outside, IsBadSchedule}
 use Rattle.rg_words.specs.Answers.{ForInput}
 use Rattle.rg_sources.specs.Sources.{Sources, HasSource}
@@ -92,6 +93,7 @@ answer-inside (status.Refused f) h = refl
 answer-inside status.Usage h = refl
 answer-inside (status.Trap kind line) h = refl
 answer-inside status.Spent h = refl
+answer-inside (status.Away n) h = refl
 answer-inside status.SourceFault h = cc
 answer-inside status.InputFault h = cc
 answer-inside status.OutputFault h = cc
@@ -143,6 +145,7 @@ expected-unless P (status.Refused f) (inr o) x y z = cc
 expected-unless P status.Usage (inr o) x y z = cc
 expected-unless P (status.Trap kind line) (inr o) x y z = cc
 expected-unless P status.Spent (inr o) x y z = cc
+expected-unless P (status.Away n) (inr o) x y z = cc
 expected-unless P status.SourceFault (inr o) x y z = absurd (x refl)
 expected-unless P status.InputFault (inr o) x y z = absurd (y refl)
 expected-unless P status.OutputFault (inr o) x y z = absurd (z refl)
@@ -266,6 +269,7 @@ untouched-of told left words c status.Usage old new m still e (inr (inl u)) = (u
 untouched-of told left words c status.Usage old new m still e (inr (inr r)) = absurd r.settles
 untouched-of told left words c (status.Trap kind line) old new m still e h = tt
 untouched-of told left words c status.Spent old new m still e h = tt
+untouched-of told left words c (status.Away n) old new m still e h = tt
 untouched-of told left words c status.SourceFault old new m still e (inl h) = absurd h.2
 untouched-of told left words c status.SourceFault old new m still e (inr (inl u)) = (u.1.0, u.1.1, inr u.1.2)
 untouched-of told left words c status.SourceFault old new m still e (inr (inr r)) = absurd r.settles
@@ -316,6 +320,8 @@ may-tell told left words F I (status.Trap kind line) n u f i (inl h) = h
 may-tell told left words F I (status.Trap kind line) n u f i (inr o) = cc
 may-tell told left words F I status.Spent n u f i (inl h) = h
 may-tell told left words F I status.Spent n u f i (inr o) = cc
+may-tell told left words F I (status.Away k) n u f i (inl h) = h
+may-tell told left words F I (status.Away k) n u f i (inr o) = cc
 may-tell told left words F I status.SourceFault n u f i h = f refl
 may-tell told left words F I status.InputFault n u f i h = i refl
 may-tell told left words F I status.OutputFault n u f i h = absurd (n refl)
@@ -345,7 +351,7 @@ usage-exactly told left words answer s none t i = record { only = only t; always
     only (inr o) e = let n : is_answer status.OutputFault ≡ true = ap is_answer (sym o ∙ e) ∙ i in absurd (cc)
 
 -- what follows where a test fails
-on-false : (b : Bool) {P : Type 0} → (b ≡ false → P) → OnFalse b P
+pub on-false : (b : Bool) {P : Type 0} → (b ≡ false → P) → OnFalse b P
 on-false true h = tt
 on-false false h = h refl
 
@@ -353,6 +359,11 @@ on-false false h = h refl
 pub answer-unread : (words : List (List ℕ)) (c : Command) (P : Type 0) → command words ≡ Some c → (reads_input c ≡ false → P) →
     OnFalse (may_read (command words)) P
 answer-unread words c P e h = rw e (on-false (reads_input c) h)
+
+-- and a command that runs nothing on the machine that is handed in is one
+pub answer-unrun : (words : List (List ℕ)) (c : Command) (P : Type 0) → command words ≡ Some c → (runs_on c ≡ false → P) →
+    OnFalse (may_run (command words)) P
+answer-unrun words c P e h = rw e (on-false (runs_on c) h)
 
 -- a command that opens no file leaves the files
 pub answer-unopened : (words : List (List ℕ)) (c : Command) (P : Type 0) → command words ≡ Some c → (opens_file c ≡ false → P) →
@@ -380,6 +391,7 @@ may-any told left words F I (status.Refused f) n h = h
 may-any told left words F I status.Usage n h = h
 may-any told left words F I (status.Trap kind line) n h = h
 may-any told left words F I status.Spent n h = h
+may-any told left words F I (status.Away k) n h = h
 may-any told left words F I status.SourceFault n h = tt
 may-any told left words F I status.InputFault n h = tt
 may-any told left words F I status.OutputFault n h = h

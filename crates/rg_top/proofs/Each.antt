@@ -61,7 +61,7 @@ stands-each law (check file) source input n m t runs s = tt
 stands-each law (code file) source input n m t runs s = tt
 stands-each law (pack file) source input n m t runs s = tt
 stands-each law (bulk size) source input n m t runs s = tt
-stands-each law (when file plan) source input n m t runs s = tt
+stands-each law (when file plan keep) source input n m t runs s = tt
 stands-each law (exec file k every report) source input n m t runs s = λ u each. (law.alike file source t u runs each).stands input n m s
 
 -- the one of two facts that an accepted program has
@@ -75,7 +75,7 @@ left-each : EachRuns → (file : List ℕ) (n every : ℕ) (report : Bool) (sour
     StandsFor u input n m
 left-each law file n every report source input too_long m still means left u runs =
     let h = runs.means in absurd (omega (arith, means, h.0))
-left-each law file n every report source input (planned t p) m still means left u runs = absurd means
+left-each law file n every report source input (planned t p images) m still means left u runs = absurd means
 left-each law file n every report source input (faulty f) m still means left u runs =
     absurd (law.no_fault file source f u means runs)
 left-each law file n every report source input (spelt t) m still means left u runs =
@@ -100,7 +100,7 @@ each-answer law (check file) source input s old new m still a = tt
 each-answer law (code file) source input s old new m still a = tt
 each-answer law (pack file) source input s old new m still a = tt
 each-answer law (bulk size) source input s old new m still a = tt
-each-answer law (when file plan) source input s old new m still a = tt
+each-answer law (when file plan keep) source input s old new m still a = tt
 each-answer law (exec file n every report) source input s old new m still a =
     λ u runs. left-each law file n every report source input a.meaning m still a.means a.leaves u runs
 
@@ -126,7 +126,7 @@ each-cut law (check file) source input m old new still h = tt
 each-cut law (code file) source input m old new still h = tt
 each-cut law (pack file) source input m old new still h = tt
 each-cut law (bulk size) source input m old new still h = tt
-each-cut law (when file plan) source input m old new still h = tt
+each-cut law (when file plan keep) source input m old new still h = tt
 each-cut law (exec file n every report) source input m old new still h =
     stands-each law (exec file n every report) source input m.steps m h.0 h.1 h.2.stands
 
@@ -152,7 +152,7 @@ each-input law (check file) source input m old new h = absurd h
 each-input law (code file) source input m old new h = absurd h
 each-input law (pack file) source input m old new h = absurd h
 each-input law (bulk size) source input m old new h = absurd h
-each-input law (when file plan) source input m old new h = tt
+each-input law (when file plan keep) source input m old new h = tt
 each-input law (exec file n every report) source input m old new h =
     stands-each law (exec file n every report) source input m.steps m h.0 h.1 h.2
 
@@ -175,7 +175,7 @@ each-asks law (check file) source input m d e t u h = tt
 each-asks law (code file) source input m d e t u h = tt
 each-asks law (pack file) source input m d e t u h = tt
 each-asks law (bulk size) source input m d e t u h = tt
-each-asks law (when file plan) source input m d e t u h = tt
+each-asks law (when file plan keep) source input m d e t u h = tt
 each-asks law (exec file n every report) source input m d e t u h =
     λ p runs. let here = law.alike file source h.tables p h.runs runs in record {
       stands = here.stands input m.steps m h.stands;

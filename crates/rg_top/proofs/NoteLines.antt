@@ -34,6 +34,7 @@ front-of true (status.Refused f) events old mid h = record { lines = []; before 
 front-of true status.Usage events old mid h = record { lines = []; before = refl; took = untouched-text old mid h }
 front-of true (status.Trap kind line) events old mid h = record { lines = event_lines events; before = refl; took = h }
 front-of true status.Spent events old mid h = record { lines = event_lines events; before = refl; took = h }
+front-of true (status.Away n) events old mid h = record { lines = []; before = refl; took = untouched-text old mid h }
 front-of true status.SourceFault events old mid h = record { lines = []; before = refl; took = untouched-text old mid h }
 front-of true status.InputFault events old mid h = record { lines = event_lines events; before = refl; took = h }
 front-of true status.OutputFault events old mid h = record { lines = h.0; before = h.1; took = h.2 }
@@ -49,6 +50,7 @@ took-whole May report steps m (status.Refused f) old new lines n is took = (line
 took-whole May report steps m status.Usage old new lines n is took = (lines, is, took)
 took-whole May report steps m (status.Trap kind line) old new lines n is took = (lines, is, took)
 took-whole May report steps m status.Spent old new lines n is took = (lines, is, took)
+took-whole May report steps m (status.Away k) old new lines n is took = (lines, is, took)
 took-whole May report steps m status.SourceFault old new lines n is took = (lines, is, took)
 took-whole May report steps m status.InputFault old new lines n is took = (lines, is, took)
 took-whole May report steps m status.OutputFault old new lines n is took = absurd (n refl)
@@ -100,6 +102,7 @@ took-may May Might f report steps m (status.Refused fault) old new h = h
 took-may May Might f report steps m status.Usage old new h = h
 took-may May Might f report steps m (status.Trap kind line) old new h = h
 took-may May Might f report steps m status.Spent old new h = h
+took-may May Might f report steps m (status.Away n) old new h = h
 took-may May Might f report steps m status.SourceFault old new h = h
 took-may May Might f report steps m status.InputFault old new h = h
 took-may May Might f report steps m status.OutputFault old new (inl h) = inl h
@@ -138,6 +141,7 @@ reported-memory (status.Refused f) events old mid e h = cc
 reported-memory status.Usage events old mid e h = cc
 reported-memory (status.Trap kind line) events old mid e h = all-lines events old mid h
 reported-memory status.Spent events old mid e h = all-lines events old mid h
+reported-memory (status.Away n) events old mid e h = cc
 reported-memory status.SourceFault events old mid e h = cc
 reported-memory status.InputFault events old mid e h = cc
 reported-memory status.OutputFault events old mid e h = cc
@@ -166,6 +170,7 @@ behind-end steps m (status.Refused f) e = cc
 behind-end steps m status.Usage e = cc
 behind-end steps m (status.Trap kind line) e = refl
 behind-end steps m status.Spent e = refl
+behind-end steps m (status.Away n) e = cc
 behind-end steps m status.SourceFault e = cc
 behind-end steps m status.InputFault e = cc
 behind-end steps m status.OutputFault e = cc
@@ -181,6 +186,7 @@ behind-other true steps m (status.Refused f) (inr e) = append-nil _
 behind-other true steps m status.Usage (inr e) = append-nil _
 behind-other true steps m (status.Trap kind line) (inr e) = cc
 behind-other true steps m status.Spent (inr e) = cc
+behind-other true steps m (status.Away n) (inr e) = append-nil _
 behind-other true steps m status.SourceFault (inr e) = append-nil _
 behind-other true steps m status.InputFault (inr e) = append-nil _
 behind-other true steps m status.OutputFault (inr e) = append-nil _

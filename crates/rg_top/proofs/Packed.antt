@@ -26,7 +26,7 @@ meant one bytes parts t has raises short too_long h = absurd (omega (arith, h, s
 meant one bytes parts t has raises short (faulty f) h = absurd (no-program one bytes f parts t h.1 has raises)
 meant one bytes parts t has raises short (spelt u) h =
     let P : Parts → Type 0 = λ q. Raises q u in (u, refl, subst P (one bytes h.1 parts h.2 has) h.3)
-meant one bytes parts t has raises short (planned u p) h = absurd h
+meant one bytes parts t has raises short (planned u p images) h = absurd h
 
 -- accepted programs of one module have the same answer
 answered : OneModuleOneRun → (t u : Tree) → Accepted t → Accepted u → module_of u ≡ module_of t → (input : List ℕ) (n : ℕ) →

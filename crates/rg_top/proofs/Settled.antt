@@ -21,12 +21,12 @@ use Rattle.rg_run.proofs.Sound.{run-is-sound, stands-shown}
 use Rattle.rg_run.proofs.Run.{run-of, wrote-whole, text-part}
 use Rattle.rg_words.specs.declared.status.Status.{Status}
 use Rattle.rg_words.specs.declared.status.Status.TheVariants as status
-use Rattle.rg_words.specs.Commands.{Command, run, plain, fmt, check, code, pack, bulk, exec, when, in_file, in_module, with_plan, origin_of}
+use Rattle.rg_words.specs.Commands.{Command, run, plain, fmt, check, code, pack, bulk, exec, when, in_file, in_module, with_plan, origin_of, keep_of}
 use Rattle.rg_words.specs.Statuses.{is_answer, is_from_outside, is_refusal, IsBadSchedule}
 use Rattle.rg_words.specs.Answers.{Answer, ForInput}
 use Rattle.rg_words.proofs.Written.{untouched-text}
 use Rattle.rg_sources.specs.Sources.{Sources, planned, too_long, faulty, spelt, MeansFrom}
-use Rattle.rg_when.specs.Scheduled.{schedule_answer, said_answer, Scheduled, SettlesSchedule}
+use Rattle.rg_when.specs.Scheduled.{schedule_answer, Answered, SettlesSchedule}
 use Rattle.rg_commands.specs.Expected.{status_of, accepted_text, listed_text, packed_text, text_after, line_behind, run_answer, unless_fault}
 use Rattle.rg_commands.specs.Expected.{ExpectsStatus}
 use Rattle.rg_commands.specs.CutOff.{Untouched, StandsAfter, AsksAfter, CutOffAt, CutAtInput}
@@ -34,6 +34,7 @@ use Rattle.rg_commands.specs.Settled.{RanSchedule, RanWhole, RanBeside, RanGener
 use Rattle.rg_commands.proofs.Meaning.{plan-needed, said-refused}
 use Rattle.rg_commands.proofs.Settled.{bulk-stands}
 use Rattle.rg_top.specs.Headline.{IfAccepted, RunStands, Answers}
+use Rattle.rg_cown.specs.Cargo.{CargoList}
 use Rattle.rg_plan.specs.Plans.{PlanOf}
 use Rattle.rg_schedule.specs.Schedules.{schedule_of}
 use Rattle.rg_io.specs.Files.{Told}
@@ -181,7 +182,7 @@ answers-well (pack file) source left old new m still r =
 answers-well (bulk size) source left old new m still r = answers-generated size source left status.Done old new m still r
 answers-well (exec file n every report) source left old new m still r =
     answers-exec file n every report source left status.Done old new m still r
-answers-well (when file plan) source left old new m still r = absurd r
+answers-well (when file plan keep) source left old new m still r = absurd r
 
 answers-stops : (c : Command) (source : Sources) (left : Option (List ℕ)) (s : Status) (old new : Option (List ℕ)) (m : Kept) (still : Type 0) →
     StopsRun c source left s old new m still → ForInput left (λ input. Answers c source input s old new m still)
@@ -194,7 +195,7 @@ answers-stops (code file) source left s old new m still r = absurd r
 answers-stops (pack file) source left s old new m still r = absurd r
 answers-stops (bulk size) source left s old new m still r = answers-generated size source left s old new m still r
 answers-stops (exec file n every report) source left s old new m still r = answers-exec file n every report source left s old new m still r
-answers-stops (when file plan) source left s old new m still r = absurd r
+answers-stops (when file plan keep) source left s old new m still r = absurd r
 
 -- a source with a fault is refused
 answers-refused : (c : Command) (source : Sources) (input : List ℕ) (f : Fault) (old new : Option (List ℕ)) (m : Kept) (still : Type 0) →
@@ -251,7 +252,7 @@ answers-refused (pack file) source input f old new m still u (inr h) = record {
 }
 answers-refused (bulk size) source input f old new m still u (inr h) = absurd h
 answers-refused (exec file n every report) source input f old new m still u (inr h) = absurd h
-answers-refused (when file plan) source input f old new m still u (inr h) = absurd h
+answers-refused (when file plan keep) source input f old new m still u (inr h) = absurd h
 
 -- what was answered, where nothing cut it off
 pub answers-of : (c : Command) (source : Sources) (left : Option (List ℕ)) (s : Status) (old new : Option (List ℕ)) (m : Kept) (still : Type 0) →
@@ -261,6 +262,7 @@ answers-of c source left (status.Refused f) old new m still h = for-input left _
 answers-of c source left status.Usage old new m still h = tt
 answers-of c source left (status.Trap kind line) old new m still h = answers-stops c source left (status.Trap kind line) old new m still h
 answers-of c source left status.Spent old new m still h = answers-stops c source left status.Spent old new m still h
+answers-of c source left (status.Away n) old new m still h = absurd h
 answers-of c source left status.SourceFault old new m still h = tt
 answers-of c source left status.InputFault old new m still h = tt
 answers-of c source left status.OutputFault old new m still h = tt
@@ -335,7 +337,7 @@ cut-well (code file) source left old new m still r = (r.tree, r.runs, r.fresh, w
 cut-well (pack file) source left old new m still r = (r.tree, r.runs, r.fresh, whole-part old new _ r.wrote)
 cut-well (bulk size) source left old new m still r = cut-generated size source status.Done old new m [] still r
 cut-well (exec file n every report) source left old new m still r = cut-exec file n every report source left status.Done old new m still r
-cut-well (when file plan) source left old new m still r = absurd r
+cut-well (when file plan keep) source left old new m still r = absurd r
 
 cut-stops : (c : Command) (source : Sources) (left : Option (List ℕ)) (s : Status) (old new : Option (List ℕ)) (m : Kept) (still : Type 0) →
     StopsRun c source left s old new m still → CutOff c source left old new m still
@@ -348,7 +350,7 @@ cut-stops (code file) source left s old new m still r = absurd r
 cut-stops (pack file) source left s old new m still r = absurd r
 cut-stops (bulk size) source left s old new m still r = cut-generated size source s old new m [] still r
 cut-stops (exec file n every report) source left s old new m still r = cut-exec file n every report source left s old new m still r
-cut-stops (when file plan) source left s old new m still r = absurd r
+cut-stops (when file plan keep) source left s old new m still r = absurd r
 
 no_lie : true ≡ false → ⊥
 no_lie e = cc
@@ -414,7 +416,8 @@ cut-input (exec file n every report) source left old new m still h =
         asked (program_of t) h.0 n m.steps old new still asks,
       ),
     )
-cut-input (when file plan) source left old new m still h = (h.0, h.1, (h.2.0, h.2.1, h.2.2, h.2.3, nothing-part old new _ h.2.4))
+cut-input (when file plan keep) source left old new m still h =
+    (h.0, h.1, (h.2.0, h.2.1, h.2.2, h.2.3, h.2.4, nothing-part old new _ h.2.5))
 
 cut-at : (c : Command) (source : Sources) (left old new : Option (List ℕ)) (m : Kept) (still : Type 0) → CutOff c source left old new m still →
     ForInput left (λ input. CutOffAt c source input m old new still)
@@ -426,7 +429,7 @@ cut-at (code file) source left old new m still h = for-input left _ (λ input. h
 cut-at (pack file) source left old new m still h = for-input left _ (λ input. h)
 cut-at (bulk size) source left old new m still h = for-input left _ (λ input. h)
 cut-at (exec file n every report) source left old new m still h = h
-cut-at (when file plan) source left old new m still h = h
+cut-at (when file plan keep) source left old new m still h = h
 
 untouched-or : (c : Command) (source : Sources) (left old new : Option (List ℕ)) (m : Kept) (still : Type 0) →
     Untouched m old new still ⊎ CutOff c source left old new m still →
@@ -444,6 +447,7 @@ cut-of c source left (status.Trap kind line) old new m still h =
     inr (cut-at c source left old new m still (cut-stops c source left (status.Trap kind line) old new m still h))
 cut-of c source left status.Spent old new m still h =
     inr (cut-at c source left old new m still (cut-stops c source left status.Spent old new m still h))
+cut-of c source left (status.Away n) old new m still h = absurd h
 cut-of c source left status.SourceFault old new m still h = absurd h
 cut-of c source left status.InputFault old new m still h = inr (cut-at c source left old new m still (cut-input c source left old new m still h))
 cut-of c source left status.OutputFault old new m still h = untouched-or c source left old new m still h
@@ -467,6 +471,7 @@ status-of c source left s old new m still h = go s h (answers-of c source left s
     go status.Usage h a = absurd h
     go (status.Trap kind line) h a = inl (expects (status.Trap kind line) a)
     go status.Spent h a = inl (expects status.Spent a)
+    go (status.Away n) h a = absurd h
     go status.SourceFault h a = inr refl
     go status.InputFault h a = inr refl
     go status.OutputFault h a = inr refl
@@ -476,12 +481,12 @@ status-of c source left s old new m still h = go s h (answers-of c source left s
 -- what was answered to a schedule
 module _ (told : Option Told) (c : Command) (left : Option (List ℕ)) (s : Status) (old new : Option (List ℕ)) (m : Kept) (still : Type 0)
     (r : RanSchedule told c left s old new m) where
-  schedule-answers : Scheduled r.tree r.plan left s old new → ForInput left (λ input. Answers c r.source input s old new m still)
+  schedule-answers : Answered (schedule_answer r.tree r.plan r.images (keep_of c)) left s old new → ForInput left (λ input. Answers c r.source input s old new m still)
   schedule-answers h = (
     h.0,
     h.1,
     record {
-      meaning = planned r.tree r.plan;
+      meaning = planned r.tree r.plan r.images;
       means = r.means;
       text = h.2.0;
       expects = h.2.1;
@@ -491,30 +496,32 @@ module _ (told : Option Told) (c : Command) (left : Option (List ℕ)) (s : Stat
   )
 
 -- a schedule's plan is meant to `when`
-cut-planned : (c : Command) (source : Sources) (t : Tree) (p : PlanOf) (input : List ℕ) (m : Kept) (old new : Option (List ℕ)) (still : Type 0) →
-    MeansFrom (origin_of c) source (planned t p) → IsFresh m → AppendsPart old new (schedule_answer t p input).text →
+cut-planned : (c : Command) (source : Sources) (t : Tree) (p : PlanOf) (images : List CargoList) (input : List ℕ) (m : Kept)
+    (old new : Option (List ℕ)) (still : Type 0) →
+    MeansFrom (origin_of c) source (planned t p images) → IsFresh m → AppendsPart old new (schedule_answer t p images (keep_of c) input).text →
     CutOffAt c source input m old new still
-cut-planned (run slides file n every report) source t p input m old new still h fresh part = absurd h
-cut-planned (plain file n) source t p input m old new still h fresh part = absurd h
-cut-planned (fmt file) source t p input m old new still h fresh part = absurd h
-cut-planned (check file) source t p input m old new still h fresh part = absurd h
-cut-planned (code file) source t p input m old new still h fresh part = absurd h
-cut-planned (pack file) source t p input m old new still h fresh part = absurd h
-cut-planned (bulk size) source t p input m old new still h fresh part = let lie : planned t p ≡ spelt _ = h in absurd (cc)
-cut-planned (exec file n every report) source t p input m old new still h fresh part = absurd h
-cut-planned (when file plan) source t p input m old new still h fresh part = (t, p, h, fresh, part)
+cut-planned (run slides file n every report) source t p images input m old new still h fresh part = absurd h
+cut-planned (plain file n) source t p images input m old new still h fresh part = absurd h
+cut-planned (fmt file) source t p images input m old new still h fresh part = absurd h
+cut-planned (check file) source t p images input m old new still h fresh part = absurd h
+cut-planned (code file) source t p images input m old new still h fresh part = absurd h
+cut-planned (pack file) source t p images input m old new still h fresh part = absurd h
+cut-planned (bulk size) source t p images input m old new still h fresh part = let lie : planned t p images ≡ spelt _ = h in absurd (cc)
+cut-planned (exec file n every report) source t p images input m old new still h fresh part = absurd h
+cut-planned (when file plan keep) source t p images input m old new still h fresh part = (t, p, images, h, fresh, part)
 
-input-planned : (c : Command) (source : Sources) (t : Tree) (p : PlanOf) (input : List ℕ) (m : Kept) (old new : Option (List ℕ)) →
-    MeansFrom (origin_of c) source (planned t p) → IsFresh m → new ≡ old → CutAtInput c source input m old new
-input-planned (run slides file n every report) source t p input m old new h fresh silent = absurd h
-input-planned (plain file n) source t p input m old new h fresh silent = absurd h
-input-planned (fmt file) source t p input m old new h fresh silent = absurd h
-input-planned (check file) source t p input m old new h fresh silent = absurd h
-input-planned (code file) source t p input m old new h fresh silent = absurd h
-input-planned (pack file) source t p input m old new h fresh silent = absurd h
-input-planned (bulk size) source t p input m old new h fresh silent = let lie : planned t p ≡ spelt _ = h in absurd (cc)
-input-planned (exec file n every report) source t p input m old new h fresh silent = absurd h
-input-planned (when file plan) source t p input m old new h fresh silent = (t, p, h, fresh, silent)
+input-planned : (c : Command) (source : Sources) (t : Tree) (p : PlanOf) (images : List CargoList) (input : List ℕ) (m : Kept)
+    (old new : Option (List ℕ)) →
+    MeansFrom (origin_of c) source (planned t p images) → IsFresh m → new ≡ old → CutAtInput c source input m old new
+input-planned (run slides file n every report) source t p images input m old new h fresh silent = absurd h
+input-planned (plain file n) source t p images input m old new h fresh silent = absurd h
+input-planned (fmt file) source t p images input m old new h fresh silent = absurd h
+input-planned (check file) source t p images input m old new h fresh silent = absurd h
+input-planned (code file) source t p images input m old new h fresh silent = absurd h
+input-planned (pack file) source t p images input m old new h fresh silent = absurd h
+input-planned (bulk size) source t p images input m old new h fresh silent = let lie : planned t p images ≡ spelt _ = h in absurd (cc)
+input-planned (exec file n every report) source t p images input m old new h fresh silent = absurd h
+input-planned (when file plan keep) source t p images input m old new h fresh silent = (t, p, images, h, fresh, silent)
 
 pub schedule-of : (told : Option Told) (c : Command) (left : Option (List ℕ)) (s : Status) (old new : Option (List ℕ)) (m : Kept) (still : Type 0)
     (r : RanSchedule told c left s old new m) → OnTrue (is_answer s) (ForInput left (λ input. Answers c r.source input s old new m still))
@@ -523,6 +530,7 @@ schedule-of told c left (status.Refused f) old new m still r = schedule-answers 
 schedule-of told c left status.Usage old new m still r = tt
 schedule-of told c left (status.Trap kind line) old new m still r = absurd r.settles
 schedule-of told c left status.Spent old new m still r = schedule-answers told c left status.Spent old new m still r r.settles
+schedule-of told c left (status.Away n) old new m still r = schedule-answers told c left (status.Away n) old new m still r r.settles
 schedule-of told c left status.SourceFault old new m still r = tt
 schedule-of told c left status.InputFault old new m still r = tt
 schedule-of told c left status.OutputFault old new m still r = tt
@@ -533,22 +541,23 @@ schedule-of told c left status.Long old new m still r = absurd r.settles
 pub schedule-cut : (told : Option Told) (c : Command) (left : Option (List ℕ)) (s : Status) (old new : Option (List ℕ)) (m : Kept) (still : Type 0)
     (r : RanSchedule told c left s old new m) → ForInput left (λ input. CutOffAt c r.source input m old new still)
 schedule-cut told c left s old new m still r =
-    let part = go s r.settles in (part.0, part.1, cut-planned c r.source r.tree r.plan part.0 m old new still r.means r.fresh part.2)
+    let part = go s r.settles in (part.0, part.1, cut-planned c r.source r.tree r.plan r.images part.0 m old new still r.means r.fresh part.2)
   where
     Part : Type 0
-    Part = ForInput left (λ input. AppendsPart old new (schedule_answer r.tree r.plan input).text)
+    Part = ForInput left (λ input. AppendsPart old new (schedule_answer r.tree r.plan r.images (keep_of c) input).text)
 
-    whole : (s : Status) → Scheduled r.tree r.plan left s old new → Part
+    whole : (s : Status) → Answered (schedule_answer r.tree r.plan r.images (keep_of c)) left s old new → Part
     whole s h =
         let P : List ℕ → Type 0 = λ q. AppendsPart old new q in
         (h.0, h.1, subst P (sym (ap (λ (a : Answer). a.text) h.2.1)) (whole-part old new h.2.0 h.2.2))
 
-    go : (s : Status) → SettlesSchedule r.tree r.plan left s old new → Part
+    go : (s : Status) → SettlesSchedule r.tree r.plan r.images (keep_of c) left s old new → Part
     go status.Done h = whole status.Done h
     go (status.Refused f) h = whole (status.Refused f) h
     go status.Usage h = absurd h
     go (status.Trap kind line) h = absurd h
     go status.Spent h = whole status.Spent h
+    go (status.Away n) h = whole (status.Away n) h
     go status.SourceFault h = absurd h
     go status.InputFault h = for-input left _ (λ input. nothing-part old new _ h)
     go status.OutputFault h = h
@@ -558,7 +567,7 @@ schedule-cut told c left s old new m still r =
 pub schedule-input : (told : Option Told) (c : Command) (left : Option (List ℕ)) (old new : Option (List ℕ)) (m : Kept)
     (r : RanSchedule told c left status.InputFault old new m) → ForInput left (λ input. CutAtInput c r.source input m old new)
 schedule-input told c left old new m r =
-    for-input left _ (λ input. input-planned c r.source r.tree r.plan input m old new r.means r.fresh r.settles)
+    for-input left _ (λ input. input-planned c r.source r.tree r.plan r.images input m old new r.means r.fresh r.settles)
 
 -- what is expected, where nothing was cut off
 pub schedule-status : (told : Option Told) (c : Command) (left : Option (List ℕ)) (s : Status) (old new : Option (List ℕ)) (m : Kept)
@@ -569,7 +578,7 @@ schedule-status told c left s old new m r = go s r.settles (schedule-of told c l
         ForInput left (λ input. ExpectsStatus c r.source input s)
     expects s (input, is, a) = (input, is, (numbers_of m, a.text, (a.meaning, a.means, a.expects)))
 
-    go : (s : Status) → SettlesSchedule r.tree r.plan left s old new →
+    go : (s : Status) → SettlesSchedule r.tree r.plan r.images (keep_of c) left s old new →
         OnTrue (is_answer s) (ForInput left (λ input. Answers c r.source input s old new m (Unit {0}))) →
         ForInput left (λ input. ExpectsStatus c r.source input s) ⊎ (is_from_outside s ≡ true)
     go status.Done h a = inl (expects status.Done a)
@@ -577,6 +586,7 @@ schedule-status told c left s old new m r = go s r.settles (schedule-of told c l
     go status.Usage h a = absurd h
     go (status.Trap kind line) h a = absurd h
     go status.Spent h a = inl (expects status.Spent a)
+    go (status.Away n) h a = inl (expects (status.Away n) a)
     go status.SourceFault h a = inr refl
     go status.InputFault h a = inr refl
     go status.OutputFault h a = inr refl
@@ -588,8 +598,8 @@ pub schedule-refused : (told : Option Told) (c : Command) (left : Option (List �
     (r : RanSchedule told c left (status.Refused f) old new m) → (is_scheduled c ≡ true) × IsBadSchedule (status.Refused f) × (new ≡ old)
 schedule-refused told c left f old new m r =
     let said = schedule_of (length r.plan.behaviours) r.settles.0 in
-    let bad = said-refused r.tree r.plan said (status.Refused f) r.settles.2.0 refl r.settles.2.1 in (
-      plan-needed c r.source r.tree r.plan r.means,
+    let bad = said-refused r.tree r.plan r.images (keep_of c) said (status.Refused f) r.settles.2.0 refl r.settles.2.1 in (
+      plan-needed c r.source r.tree r.plan r.images r.means,
       bad.0,
       silent old new r.settles.2.0 bad.1 r.settles.2.2,
     )

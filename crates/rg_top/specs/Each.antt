@@ -18,7 +18,7 @@ StandsForEach (check file) source input n m = ⊤
 StandsForEach (code file) source input n m = ⊤
 StandsForEach (pack file) source input n m = ⊤
 StandsForEach (bulk size) source input n m = ⊤
-StandsForEach (when file plan) source input n m = ⊤
+StandsForEach (when file plan keep) source input n m = ⊤
 StandsForEach (exec file steps every report) source input n m = (t : Tree) → Runs (in_module file) source t → RunStands t input n m
 
 -- its run asked the pacers so often
@@ -35,5 +35,5 @@ AsksForEach (check file) source input m c d t u = ⊤
 AsksForEach (code file) source input m c d t u = ⊤
 AsksForEach (pack file) source input m c d t u = ⊤
 AsksForEach (bulk size) source input m c d t u = ⊤
-AsksForEach (when file plan) source input m c d t u = ⊤
+AsksForEach (when file plan keep) source input m c d t u = ⊤
 AsksForEach (exec file steps every report) source input m c d t u = (p : Tree) → Runs (in_module file) source p → AsksSo p input m c d t u

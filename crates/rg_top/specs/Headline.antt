@@ -46,7 +46,7 @@ RunStands t input n m = (tables : Tables) × (program_of tables ≡ t) × Stands
 abbrev pub Leaves : Command → (input : List ℕ) → Meaning → Kept → (still : Type 0) → Type 0
 Leaves c input too_long m still = IsFresh m × still
 Leaves c input (faulty f) m still = IsFresh m × still
-Leaves c input (planned t p) m still = IsFresh m
+Leaves c input (planned t p images) m still = IsFresh m
 Leaves (run slides file n every report) input (spelt t) m still =
     IfAccepted (first_fault t) (RunStands t input n m × (NeverAsks t input n → still)) (IsFresh m × still)
 Leaves (plain file n) input (spelt t) m still =
@@ -58,7 +58,7 @@ Leaves (pack file) input (spelt t) m still = IsFresh m
 Leaves (bulk size) input (spelt t) m still = RunStands t [] MOST_STEPS m
 Leaves (exec file n every report) input (spelt t) m still =
     IfAccepted (first_fault t) (RunStands t input n m × (NeverAsks t input n → still)) (IsFresh m × still)
-Leaves (when file plan) input (spelt t) m still = IsFresh m
+Leaves (when file plan keep) input (spelt t) m still = IsFresh m
 
 -- A command has answered this status to one source and one input: the source means something, of which this status and this
 -- text are expected; the output has taken that text and nothing else; and the rest is left as it must be for that meaning.
@@ -89,6 +89,7 @@ IsBefore true (status.Refused f) events lines = lines ≡ []
 IsBefore true status.Usage events lines = lines ≡ []
 IsBefore true (status.Trap kind line) events lines = lines ≡ event_lines events
 IsBefore true status.Spent events lines = lines ≡ event_lines events
+IsBefore true (status.Away n) events lines = lines ≡ []
 IsBefore true status.SourceFault events lines = lines ≡ []
 IsBefore true status.InputFault events lines = lines ≡ event_lines events
 IsBefore true status.OutputFault events lines = AreCutLines events lines
@@ -102,6 +103,7 @@ line_after (status.Refused f) n = []
 line_after status.Usage n = []
 line_after (status.Trap kind line) n = end_line n
 line_after status.Spent n = end_line n
+line_after (status.Away k) n = []
 line_after status.SourceFault n = []
 line_after status.InputFault n = []
 line_after status.OutputFault n = []
@@ -154,6 +156,7 @@ MayTell told left words source_failed input_failed (status.Refused f) = IsExpect
 MayTell told left words source_failed input_failed status.Usage = command words ≡ None
 MayTell told left words source_failed input_failed (status.Trap kind line) = IsExpected told left words (status.Trap kind line)
 MayTell told left words source_failed input_failed status.Spent = IsExpected told left words status.Spent
+MayTell told left words source_failed input_failed (status.Away n) = IsExpected told left words (status.Away n)
 MayTell told left words source_failed input_failed status.SourceFault = source_failed
 MayTell told left words source_failed input_failed status.InputFault = input_failed
 MayTell told left words source_failed input_failed status.OutputFault = ⊥

@@ -28,7 +28,7 @@ pub(crate) const USAGE: &[u8] =
     b"usage: reggio run FILE [--steps N] [--every N] [--report]; check FILE; fmt FILE; \
     code FILE; plain FILE [--steps N]; bulk N; \
     slide FILE [--steps N] [--every N] [--report]; pack FILE; \
-    exec FILE [--steps N] [--every N] [--report]; when FILE PLAN\n";
+    exec FILE [--steps N] [--every N] [--report]; when FILE PLAN [--keep K]\n";
 
 /// The words of a trap.
 fn trap_words(kind: Trap) -> &'static [u8]
@@ -97,6 +97,10 @@ fn put_text<R: Sink>(notes: &mut R, status: Status, steps: u64) -> Result<(), Fa
             let line = numbered_line(b"spent", b" at step ", steps);
             put_all(notes, line.as_slice())
         }
+        Status::Away { taken } => {
+            let line = numbered_line(b"spent", b" at step ", taken);
+            put_all(notes, line.as_slice())
+        }
         Status::SourceFault => put_all(notes, b"source fault\n"),
         Status::InputFault => put_all(notes, b"input fault\n"),
         Status::OutputFault => put_all(notes, b"output fault\n"),
@@ -161,6 +165,7 @@ fn ends_run(status: Status) -> bool
     match status {
         Status::Done | Status::Trap { .. } | Status::Spent => true,
         Status::Refused(_) | Status::Usage | Status::SourceFault | Status::InputFault => false,
+        Status::Away { .. } => false,
         Status::OutputFault | Status::Memory | Status::Long => false,
     }
 }

@@ -9,11 +9,12 @@ ghost use Rattle.rg_base.specs.declared.outcome.Trap.{Trap};
 ghost use Rattle.rg_tree.specs.Rows.Tables.{Tables};
 ghost use Rattle.rg_io.specs.Content.{Rose};
 ghost use Rattle.rg_machine.specs.Owned.{IsOwned};
+ghost use Rattle.rg_step.specs.Pacers.{SameTuned, both};
 ghost use Rattle.rg_run.specs.Sound.{Stands};
 ghost use Rattle.rg_run.specs.Machine.{IsFresh};
 ghost use Rattle.rg_words.specs.Commands.{Command, command, texts, origin_of, steps_of, may_open};
 ghost use Rattle.rg_words.specs.Commands.{may_read, every_of, runs_on, is_slide, reports};
-ghost use Rattle.rg_words.specs.Commands.{may_report, may_schedule};
+ghost use Rattle.rg_words.specs.Commands.{may_run, may_report, may_schedule};
 ghost use Rattle.rg_words.specs.Requests.{command_for};
 ghost use Rattle.rg_words.specs.Statuses.{is_answer, is_refusal, is_cut_off, IsBadSchedule};
 ghost use Rattle.rg_commands.specs.Expected.{ExpectsStatus};
@@ -65,9 +66,12 @@ fn reports(task: Task<'_>) -> bool
 /// Does what the words say: reads the file that they name, a source or a module, or generates the
 /// program of the size that they say, runs it for as many steps as they say, a file's on the
 /// input, gives the output to `out` and the text of the status to `notes`, with a report where the
-/// words ask for it, and answers the status. The pacers say when an active region is collected,
-/// and decide nothing else; with `slide`, what a collection of a traced region keeps moves, which
-/// decides nothing else.
+/// words ask for it, and answers the status. With `when` it reads a plan for the source and the
+/// files of the plan's images too, runs the plan's behaviours by the schedule on the input, each on
+/// a machine of its own, and gives the text of the world behind it to `out`, or, with `--keep`, the
+/// image of what that cown has there. The pacers say when an active region is collected, and decide
+/// nothing else; with `slide`, what a collection of a traced region keeps moves, which decides
+/// nothing else.
 pub fn reggio<F: Files, I: Source, O: Sink, R: Sink>(
     alloc: Global,
     words: &[&str],
@@ -109,6 +113,9 @@ pub fn reggio<F: Files, I: Source, O: Sink, R: Sink>(
     ensures tuned { (c : Command) → command (texts words.now) ≡ Some c → runs_on c ≡ true →
         ¬ IsFresh machine.new →
         ((tally count.new).tuned ≡ every_of c) × ((tally trace.new).tuned ≡ every_of c) }
+    ensures untuned { OnFalse (may_run (command (texts words.now)))
+        (SameTuned (both (tally count.old) (tally trace.old))
+        (both (tally count.new) (tally trace.new))) }
     ensures slides { (c : Command) → command (texts words.now) ≡ Some c →
         ¬ IsFresh machine.new → machine.new.stepper.slides ≡ is_slide c }
     ensures asked { may_schedule (command (texts words.now)) ≡ false → Unasked machine.new
@@ -149,6 +156,8 @@ pub fn reggio<F: Files, I: Source, O: Sink, R: Sink>(
         result (Status.Trap kind line) }
     ensures spent { ExactlyWhere (F.told files.old) (I.left input.old) (texts words.now)
         result Status.Spent }
+    ensures away { (n : ℕ) → ExactlyWhere (F.told files.old) (I.left input.old) (texts words.now)
+        result (Status.Away n) }
     ensures source_fault { result ≡ Status.SourceFault →
         Rose (F.faults files.old) (F.faults files.new) }
     ensures input_fault { result ≡ Status.InputFault →

@@ -4,11 +4,11 @@ use Rattle.rg_io.specs.Content.{Rose}
 use Rattle.rg_io.proofs.Content.{Rose-since}
 use Rattle.rg_run.specs.Machine.{Kept}
 use Rattle.rg_words.specs.declared.status.Status.TheVariants as status
-use Rattle.rg_words.specs.Commands.{texts, may_schedule}
+use Rattle.rg_words.specs.Commands.{command, texts, may_run, may_schedule}
 use Rattle.rg_words.specs.Requests.{command_for}
 use Rattle.rg_words.specs.Statuses.{is_refusal}
 use Rattle.rg_commands.specs.Settled.{Chooses}
-use Rattle.rg_top.proofs.Answer.{Answered, answer-exactly, answer-refused, answer-complete, answer-unread}
+use Rattle.rg_top.proofs.Answer.{Answered, answer-exactly, answer-refused, answer-complete, answer-unread, answer-unrun, on-false}
 use Rattle.rg_top.proofs.Answer.{answer-unopened, answer-untouched, answer-output, answer-tuned, answer-usage, given-is, answer-chooses, tuned-moved}
 use Rattle.rg_top.proofs.Answer.{answer-may, settles-moved, usage-exactly, on-fact}
 use Rattle.rg_top.proofs.NoteLines.{asked-notes, asked-fault, unasked-notes, took-moved}
@@ -85,6 +85,13 @@ returns-in-Some-clause-tuned g c =
     tuned-moved (texts c.args.words.now) c.answer-status.new.self.machine.now _ _ _ (search rules)
     (answer-tuned (texts c.args.words.now) (command_for c.in-Some.task) _ _ _ c.in-Some.ensures.is c.answer-status.ensures.tuned)
 
+pub returns-in-Some-clause-untuned : goal.returns-in-Some-clause-untuned
+returns-in-Some-clause-untuned g c =
+    answer-unrun (texts c.args.words.now) (command_for c.in-Some.task) _ c.in-Some.ensures.is c.answer-status.ensures.untuned
+
+pub returns-in-None-clause-untuned : goal.returns-in-None-clause-untuned
+returns-in-None-clause-untuned g c = on-false (may_run (command (texts c.args.words.now))) (λ off. (refl, refl))
+
 pub returns-in-Some-clause-slides : goal.returns-in-Some-clause-slides
 returns-in-Some-clause-slides g c =
     answer-chooses (texts c.args.words.now) (command_for c.in-Some.task) _ c.in-Some.ensures.is
@@ -130,6 +137,9 @@ returns-in-Some-clause-trap g c = λ kind line. answer-exactly (answered g c ref
 pub returns-in-Some-clause-spent : goal.returns-in-Some-clause-spent
 returns-in-Some-clause-spent g c = answer-exactly (answered g c refl refl) c.answers_are_one.ensures status.Spent refl
 
+pub returns-in-Some-clause-away : goal.returns-in-Some-clause-away
+returns-in-Some-clause-away g c = λ n. answer-exactly (answered g c refl refl) c.answers_are_one.ensures (status.Away n) refl
+
 pub returns-in-Some-clause-long : goal.returns-in-Some-clause-long
 returns-in-Some-clause-long g c = answer-refused (answered g c refl refl) c.answers_are_one.ensures status.Long refl refl (λ on bad. bad)
 
@@ -152,6 +162,9 @@ returns-in-None-clause-done g c = usage-exactly _ _ _ _ status.Done c.in-None.en
 
 pub returns-in-None-clause-spent : goal.returns-in-None-clause-spent
 returns-in-None-clause-spent g c = usage-exactly _ _ _ _ status.Spent c.in-None.ensures.is c.tell.ensures.told refl
+
+pub returns-in-None-clause-away : goal.returns-in-None-clause-away
+returns-in-None-clause-away g c = λ n. usage-exactly _ _ _ _ (status.Away n) c.in-None.ensures.is c.tell.ensures.told refl
 
 pub returns-in-None-clause-trap : goal.returns-in-None-clause-trap
 returns-in-None-clause-trap g c = λ kind line. usage-exactly _ _ _ _ (status.Trap kind line) c.in-None.ensures.is c.tell.ensures.told refl

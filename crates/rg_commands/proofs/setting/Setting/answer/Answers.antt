@@ -39,3 +39,12 @@ returns-in-OfPlan-clause-yeses g c = rw c.in-OfPlan.is (λ off. absurd (no_lie o
 pub returns-in-OfPlan-clause-slides : goal.returns-in-OfPlan-clause-slides
 returns-in-OfPlan-clause-slides g c =
     rw c.in-OfPlan.is (λ begun. absurd (begun (subst IsFresh (sym c.answer_plan.ensures.machine) c.requires.unused.fresh)))
+
+pub returns-in-OfProgram-clause-untuned : goal.returns-in-OfProgram-clause-untuned
+returns-in-OfProgram-clause-untuned g c = rw c.in-OfProgram.is c.answer_request.ensures.untuned
+
+pub returns-in-OfModule-clause-untuned : goal.returns-in-OfModule-clause-untuned
+returns-in-OfModule-clause-untuned g c = rw c.in-OfModule.is (λ off. absurd (no_lie off))
+
+pub returns-in-OfPlan-clause-untuned : goal.returns-in-OfPlan-clause-untuned
+returns-in-OfPlan-clause-untuned g c = λ off. c.answer_plan.ensures.tuned

@@ -2,7 +2,7 @@ use Rattle.std.proofs.Common.{ℕ, inl, refl}
 use Rattle.rg_run.specs.Machine.{Kept, IsFresh}
 use Rattle.rg_commands.specs.Asked.{Unasked}
 use Rattle.rg_words.specs.Commands.{fmt, check, code, pack, bulk}
-use Rattle.rg_commands.proofs.Settled.{settles-still}
+use Rattle.rg_commands.proofs.Settled.{settles-still, no_lie}
 use Rattle.rg_commands.proofs.Refused.{caused-unread}
 use Rattle.rg_commands.proofs.Asked.{asked-generated, yeses-fresh}
 use Rattle.rg_commands.proofs.setting.Setting.answer_program.Goals as goal
@@ -93,3 +93,24 @@ returns-in-Code-clause-yeses g c = yeses-fresh _ _ _ _ _ c.requires.unused.fresh
 
 pub returns-in-Pack-clause-yeses : goal.returns-in-Pack-clause-yeses
 returns-in-Pack-clause-yeses g c = yeses-fresh _ _ _ _ _ c.requires.unused.fresh refl refl
+
+pub returns-in-Run-clause-untuned : goal.returns-in-Run-clause-untuned
+returns-in-Run-clause-untuned g c = rw c.in-Run.is (λ off. absurd (no_lie off))
+
+pub returns-in-Plain-clause-untuned : goal.returns-in-Plain-clause-untuned
+returns-in-Plain-clause-untuned g c = λ off. (refl, refl)
+
+pub returns-in-Format-clause-untuned : goal.returns-in-Format-clause-untuned
+returns-in-Format-clause-untuned g c = λ off. (refl, refl)
+
+pub returns-in-Check-clause-untuned : goal.returns-in-Check-clause-untuned
+returns-in-Check-clause-untuned g c = λ off. (refl, refl)
+
+pub returns-in-Code-clause-untuned : goal.returns-in-Code-clause-untuned
+returns-in-Code-clause-untuned g c = λ off. (refl, refl)
+
+pub returns-in-Pack-clause-untuned : goal.returns-in-Pack-clause-untuned
+returns-in-Pack-clause-untuned g c = λ off. (refl, refl)
+
+pub returns-in-Bulk-clause-untuned : goal.returns-in-Bulk-clause-untuned
+returns-in-Bulk-clause-untuned g c = rw c.in-Bulk.is (λ off. absurd (no_lie off))

@@ -39,3 +39,9 @@ returns-in-Ok-clause-asked g c =
 
 pub returns-in-Ok-clause-yeses : goal.returns-in-Ok-clause-yeses
 returns-in-Ok-clause-yeses g c = c.answer_program.ensures.yeses
+
+pub returns-in-Err-clause-untuned : goal.returns-in-Err-clause-untuned
+returns-in-Err-clause-untuned g c = λ off. (refl, refl)
+
+pub returns-in-Ok-clause-untuned : goal.returns-in-Ok-clause-untuned
+returns-in-Ok-clause-untuned g c = c.answer_program.ensures.untuned
