@@ -25,11 +25,17 @@ fn first_repetition(cell: &str) -> Option<Repeated<'_>> {
     })
 }
 
-/// Appends a text, in which `~` is the end of a line and `#` a number; None where no memory was
-/// found.
+/// Appends a text, in which `~` is the end of a line, `#` a number, and `\0` to `\9` the bytes 0 to
+/// 9; None where no memory was found.
 fn append(alloc: Global, text: &str, number: u32, bytes: &mut Vec<u8>) -> Option<()> {
+    let mut counts = false;
     for byte in text.bytes() {
         match byte {
+            digit if counts => {
+                bytes.push(digit.wrapping_sub(b'0')).ok()?;
+                counts = false;
+            }
+            b'\\' => counts = true,
             b'~' => bytes.push(b'\n').ok()?,
             b'#' => {
                 let digits = format!(in alloc; "{number}").ok()?;
@@ -41,8 +47,9 @@ fn append(alloc: Global, text: &str, number: u32, bytes: &mut Vec<u8>) -> Option
     Some(())
 }
 
-/// What a cell stands for: `~` is the end of a line, and `[N:TEXT]` is TEXT N times, where `#` is
-/// the number of the time, from 0. None where no memory was found.
+/// What a cell stands for: `~` is the end of a line, `\0` to `\9` are the bytes 0 to 9, and
+/// `[N:TEXT]` is TEXT N times, where `#` is the number of the time, from 0. None where no memory
+/// was found.
 pub fn expanded(alloc: Global, cell: &str) -> Option<Vec<u8>> {
     let mut bytes = Vec::new(alloc);
     let mut rest = cell;

@@ -15,7 +15,7 @@ mod shown;
 use crate::changes::judge_change;
 use crate::cuts::cut_anywhere;
 use crate::pacers::{by_a_list, never};
-use crate::programs::{PLANNED, PROGRAMS, settles, writes};
+use crate::programs::{KEPT, PLANNED, PROGRAMS, settles, writes};
 use crate::rows::{Verdict, judge};
 use crate::shown::shows;
 use rg_io::{StdFiles, take_all};
@@ -66,6 +66,14 @@ fn planned(
     println!(rt; "when {program} {plan}: {when}")
 }
 
+/// Says of a program with a plan whether it keeps what is expected.
+fn kept(rt: &(impl Files + Print + AllocGlobal)) -> io::Result<()> {
+    let (program, plan, schedule, cown, image) = KEPT;
+    let words = ["when", program, plan, "--keep", cown];
+    let when = told(writes(rt, &words, Some(schedule), image));
+    println!(rt; "when {program} {plan} --keep {cown}: {when}")
+}
+
 /// Says of each example whether it writes what is expected.
 fn examples(rt: &(impl Files + Print + AllocGlobal)) -> io::Result<()> {
     for (program, input, output) in PROGRAMS {
@@ -74,6 +82,7 @@ fn examples(rt: &(impl Files + Print + AllocGlobal)) -> io::Result<()> {
     for (program, plan, schedule, output) in PLANNED {
         planned(rt, program, plan, schedule, output)?;
     }
+    kept(rt)?;
     let text = told(writes(rt, &["fmt", "every_form.rg"], None, "every_form.fmt"));
     println!(rt; "fmt every_form.rg: {text}")?;
     let module = told(writes(rt, &["pack", "seven.rg"], None, "seven.rgm"));

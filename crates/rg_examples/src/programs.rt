@@ -27,7 +27,7 @@ pub const PROGRAMS: [(&str, Option<&str>, &str); 18] = [
 ];
 
 /// The programs that run by a plan, each with the files of its plan, its schedule and its output.
-pub const PLANNED: [(&str, &str, &str, &str); 3] = [
+pub const PLANNED: [(&str, &str, &str, &str); 4] = [
     (
         "accounts.rg",
         "accounts.plan",
@@ -36,7 +36,18 @@ pub const PLANNED: [(&str, &str, &str, &str); 3] = [
     ),
     ("stages.rg", "stages.plan", "stages.in", "stages.out"),
     ("mended.rg", "mended.plan", "mended.in", "mended.out"),
+    ("game.rg", "game_on.plan", "game_on.in", "game_on.out"),
 ];
+
+/// A program that runs by a plan and keeps what a cown has: the files of the plan and of the
+/// schedule, the cown, and the file of its image, which another plan loads.
+pub const KEPT: (&str, &str, &str, &str, &str) = (
+    "game.rg",
+    "game.plan",
+    "game.in",
+    "0",
+    "game.rgi",
+);
 
 /// The most bytes of a file.
 const MOST: usize = 1_048_576;

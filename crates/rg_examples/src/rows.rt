@@ -1,5 +1,5 @@
-//! The table of rows: calls on a file, `a`, maybe with a second one, `p`, with what each writes.
-//! `""` is an empty word (docs/architecture.md, "Tests").
+//! The table of rows: calls on a file, `a`, maybe with a second one, `p`, and a third one, `i`,
+//! with what each writes. `""` is an empty word (docs/architecture.md, "Tests").
 
 use crate::calls::{Streams, call_on, streams_of};
 use crate::cells::expanded;
@@ -90,17 +90,27 @@ struct Handed {
     streams: Streams,
 }
 
+/// The files of a cell, the later ones behind ` @ `; None where no memory was found.
+fn files_of(alloc: Global, cell: &str) -> Option<MemFiles> {
+    let mut files = MemFiles::new(alloc);
+    let mut rest = Some(cell);
+    for name in ["a", "p", "i"] {
+        let Some(behind) = rest else {
+            break;
+        };
+        let (text, later) = match behind.split_once(" @ ") {
+            None => (behind, None),
+            Some((text, later)) => (text, Some(later)),
+        };
+        files.add(name, &expanded(alloc, text)?).ok()?;
+        rest = later;
+    }
+    Some(files)
+}
+
 /// The files and the streams of a row; None where no memory was found.
 fn ample(alloc: Global, row: &Row<'_>) -> Option<Handed> {
-    let mut files = MemFiles::new(alloc);
-    let source = match row.source.split_once(" @ ") {
-        None => row.source,
-        Some((source, plan)) => {
-            files.add("p", &expanded(alloc, plan)?).ok()?;
-            source
-        }
-    };
-    files.add("a", &expanded(alloc, source)?).ok()?;
+    let files = files_of(alloc, row.source)?;
     let streams = streams_of(alloc, &expanded(alloc, row.input)?)?;
     Some(Handed { files, streams })
 }
