@@ -2,8 +2,8 @@
 # Refuses each call for memory of a run in turn (bench/refuse.c, preloaded). The run must be the right one all the same, or end
 # with status 8: then its output is the first whole lines of the right one, and its notes are the first whole lines of the right
 # ones with `out of memory` behind them. Without a file: all programs of examples/ with `--every 1 --report`, `bulk 300`,
-# `pack` of each program of examples/, `when` of each that has a plan, which writes nothing where it ends with 8, and each source
-# that examples/rows.txt gives to `slide`, and every_second.rg, by `run` and `slide` with and without a report.
+# `pack` of each program of examples/, `when` of each that has a plan, which writes nothing where it ends with 8, one of them kept
+# as an image and one that begins with an image, and each source that examples/rows.txt gives to `slide`, and every_second.rg, by `run` and `slide` with and without a report.
 # It needs a C compiler, and isn't a part of the gate. Usage: bench/memory.sh [FILE [OPTION..]]
 set -eu
 words=("$@")
@@ -56,12 +56,19 @@ def slid():
         yield str(path)
     yield str(examples / "every_second.rg")
 
+def kept():
+    """A content that is put into an image, and one that comes from there and goes on."""
+    game, plan = str(examples / "game.rg"), work / "on.plan"
+    plan.write_text((examples / "game_on.plan").read_text("utf-8").replace("game.rgi", str(examples / "game.rgi")), "utf-8")
+    return ["when", game, str(examples / "game.plan"), "--keep", "0"], ["when", game, str(plan)], ["when", game, str(plan), "--keep", "0"]
+
 REPORTS = [], ["--report"], ["--every", "1", "--report"]
 runs = [["run", *words]] if words else [
     *(["run", str(path), "--every", "1", "--report"] for path in sorted(examples.glob("*.rg"))),
     ["bulk", "300"],
     *(["pack", str(path)] for path in sorted(examples.glob("*.rg"))),
-    *(["when", str(path.with_suffix(".rg")), str(path)] for path in sorted(examples.glob("*.plan"))),
+    *(["when", str(path.with_suffix(".rg")), str(path)] for path in sorted(examples.glob("*.plan")) if path.with_suffix(".rg").exists()),
+    *kept(),
     *([command, path, *report] for path in slid() for command in ("run", "slide") for report in REPORTS),
 ]
 total = 0

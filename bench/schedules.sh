@@ -90,7 +90,7 @@ def generate(seed):
 
 def plans():
     for path in sorted(Path(here, "examples").glob("*.plan")):
-        yield path.stem, path.with_suffix(".rg").read_text(), path.read_text()
+        if path.with_suffix(".rg").exists(): yield path.stem, path.with_suffix(".rg").read_text(), path.read_text()
     yield from ROWS
     for seed in range(generated):
         yield f"generated {seed}", *generate(seed)

@@ -47,7 +47,8 @@ names = dict(re.findall(r"(?m)^## (E\d\d) (.+)$", page))
 chapters = re.findall(r"(?m)^```\n((?:.*\n)*?)```\n\ngives `(E\d\d [a-z ]+ at line \d+)`", page)
 for source, said in chapters:
     expect(f"a program of the chapter on {said}: {verdict(source)}", verdict(source) == said)
-expect("each diagnostic has a program", {said[:3] for _, said in chapters} == {*names})
+WHEN = {"E93", "E94", "E95"}  # (of plans, schedules and images: bench/plans.sh and bench/images.sh try these)
+expect("each diagnostic has a program", {said[:3] for _, said in chapters} == {*names} - WHEN)
 
 # Slips: what is written in place of a line of the frame gives its code there, and the cures in front of a cell's text are
 # accepted.

@@ -108,6 +108,8 @@ printf 'class N { v: int; }\nclass A { n: iso N; def mut add() { enter self.n as
 printf 'cown N arena\nwhen A.add 0\nwhen A.add 0\n' >add.plan
 printf 'cown N arena\ncown N arena\nwhen A.add 0\nwhen A.spin 1\nwhen A.add 1\n' >spin.plan
 printf 'cown N arena\nwhen A.add 0 0\n' >bad.plan
+printf 'load N kept.image\nwhen A.add 0\n' >load.plan
+printf 'load N kept.image\ncown N arena\nload N add.plan\nwhen A.add 0\n' >other.plan
 expect 'schedule: no file' 2 '' 'usage: tools/schedule *' "$schedule"
 expect 'schedule: no plan' 2 '' 'usage: tools/schedule *' "$schedule add.rg"
 expect 'schedule: three files' 2 '' 'usage: tools/schedule *' "$schedule a b c"
@@ -129,7 +131,12 @@ if "$REGGIO" when add.rg add.plan </dev/null >/dev/null 2>&1; then
   expect 'schedule: noise as a plan' 1 '' 'schedule: E93 plan at line *' "$schedule add.rg noise.rg"
   expect 'schedule: more than 1 MiB' 9 '' 'schedule: source too long' "$schedule add.rg long.rg"
   expect 'schedule: an empty plan' 1 '' 'schedule: empty.rg has no behaviour' "$schedule add.rg empty.rg"
-  expect 'schedule: a plan' 0 '*behind each all behaviours have ended, and all wrote the same' '' "$schedule add.rg add.plan --many 3"
+  expect 'schedule: a plan' 0 '*behind each all behaviours have ended, and all wrote the same and left the same in the cowns' '' "$schedule add.rg add.plan --many 3"
+  expect 'schedule: a missing image' 5 '' 'schedule: source fault' "$schedule add.rg load.plan"
+  "$REGGIO" when add.rg add.plan --keep 0 </dev/null >kept.image
+  expect 'schedule: an image' 0 '*behind each all behaviours have ended, *' '' "$schedule add.rg load.plan --many 3"
+  expect 'schedule: another file for an image' 1 '' 'schedule: E95 image at line 3' "$schedule add.rg other.plan"
+  expect 'image: what is kept' 0 'region 0 arena*object 0 N in region 0: v = 0*' '' "$here/tools/image kept.image --program add.rg"
   expect 'schedule: one that never ends' 0 '*may never end*one behaviour waits*each other one wrote the beginning of the same' '' "$schedule add.rg spin.plan --many 3"
   expect 'schedule: it is read' 0 'behaviour 0 A.add done*1*behaviour 1 A.add done*2' '' "$schedule add.rg add.plan --write random | $REGGIO when add.rg add.plan"
 else

@@ -20,9 +20,13 @@ _reggio() {
     *)
       case ${COMP_WORDS[1]},$before in
         when,*)
-          [ "$COMP_CWORD" = 3 ] || return 0
-          compopt -o filenames
-          mapfile -t COMPREPLY < <(compgen -f -- "$word")
+          case $COMP_CWORD in
+            3)
+              compopt -o filenames
+              mapfile -t COMPREPLY < <(compgen -f -- "$word")
+              ;;
+            4) mapfile -t COMPREPLY < <(compgen -W '--keep' -- "$word") ;;
+          esac
           ;;
         *,--steps) mapfile -t COMPREPLY < <(compgen -W '1000 1000000 1000000000' -- "$word") ;;
         run,--every | slide,--every | exec,--every) mapfile -t COMPREPLY < <(compgen -W '0 1 100 1000' -- "$word") ;;
