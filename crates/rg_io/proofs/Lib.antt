@@ -3,3 +3,4 @@ pub mod Content
 mod Piece
 mod Shelves
 mod Told
+mod Walks

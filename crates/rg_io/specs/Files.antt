@@ -45,3 +45,7 @@ HasFile (Some t) name bytes = file_bytes t.files name ≡ Some bytes
 abbrev pub HasLongFile : Option Told → List ℕ → ℕ → Type 0
 HasLongFile None name most = Unit {0}
 HasLongFile (Some t) name most = (bytes : List ℕ) × (file_bytes t.files name ≡ Some bytes) × (most < length bytes)
+
+-- the names that were begun since, behind those before, are such
+abbrev pub BegunAre : (Are : List (List ℕ) → Type 0) → (old new : List (List ℕ)) → Type 0
+BegunAre Are old new = (names : List (List ℕ)) × Are names × (new ≡ old ++ names)

@@ -1,4 +1,5 @@
--- What the files, sources and sinks of the system tell of their content: nothing. They are seen as their counts of faults (docs/architecture.md).
+-- What the files, sources and sinks of the system tell of their content: nothing. Sources and sinks are seen as their counts of
+-- faults, files as theirs and the names that were begun (docs/architecture.md).
 use Rattle.std.specs.Prelude.{ℕ, List, Option, None}
 use Rattle.rg_io.specs.Files.{Told}
 
@@ -6,6 +7,11 @@ use Rattle.rg_io.specs.Files.{Told}
 abbrev pub untold_bytes : ℕ → Option (List ℕ)
 untold_bytes faults = None
 
+-- the files of the system: how often they failed, and the names that were begun, in order
+pub record SystemFiles : Type 0 where
+  pub faults : ℕ
+  pub begun : List (List ℕ)
+
 -- no files are told
-abbrev pub untold_files : ℕ → Option Told
-untold_files faults = None
+abbrev pub untold_files : SystemFiles → Option Told
+untold_files files = None

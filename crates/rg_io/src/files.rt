@@ -1,6 +1,7 @@
 //! Files by name (docs/architecture.md).
 
-ghost use Rattle.std.specs.Prelude.{◌≡◌, ℕ, ◌<◌, ◌≤◌, length, take, Option, OnOk, OnErr, IfOk};
+ghost use Rattle.std.specs.Prelude.{◌≡◌, ℕ, ◌<◌, ◌≤◌, List, [], ◌∷◌, ◌++◌, length, take};
+ghost use Rattle.std.specs.Prelude.{Option, OnOk, OnErr, IfOk};
 ghost use Rattle.rg_io.specs.Content.{Rose};
 ghost use Rattle.rg_io.specs.Files.{Told, Begins, Reads, NothingLeft};
 ghost use Rattle.rg_io.specs.Files.{SameFiles, HasFile, HasLongFile};
@@ -12,15 +13,19 @@ use rg_base::ByteList;
 use std::alloc::Global;
 
 /// Files by name, one of which is read at a time. They have a count of faults, which never falls,
-/// and may tell a map from names to bytes, and the unread rest of the file that was begun.
+/// and the names that were begun, in order, and may tell a map from names to bytes, and the unread
+/// rest of the file that was begun.
 pub trait Files {
     ghost faults: { Self → ℕ };
+
+    ghost begun: { Self → List (List ℕ) };
 
     ghost told: { Self → Option Told };
 
     /// Begins to read the file of that name.
     fn begin(&mut self, name: &str) -> Result<(), Failed>
         ensures begun { OnOk result (Begins (told self.old) name.now (told self.new)) }
+        ensures named { begun self.new ≡ begun self.old ++ name.now ∷ [] }
         ensures failed { OnErr result (Rose (faults self.old) (faults self.new)) }
         ensures kept { OnErr result (told self.new ≡ told self.old) }
         ensures never_falls { faults self.old ≤ faults self.new };
@@ -32,6 +37,7 @@ pub trait Files {
         ensures within { IfOk result (λ n. n ≤ length buf.new) }
         ensures read { IfOk result (λ n. Reads (told self.old) (told self.new) (take n buf.new)) }
         ensures end { IfOk result (λ n. n ≡ 0 → NothingLeft (told self.old)) }
+        ensures begins_none { begun self.new ≡ begun self.old }
         ensures failed { OnErr result (Rose (faults self.old) (faults self.new)) }
         ensures kept { OnErr result (told self.new ≡ told self.old) }
         ensures buffer_kept { OnErr result (buf.new ≡ buf.old) }
@@ -62,7 +68,8 @@ fn add_piece(bytes: &mut ByteList, piece: &[u8], left: usize) -> Result<usize, T
     }
 }
 
-/// Takes a whole file of at most so many bytes. After an `Err` the file may have been read in part.
+/// Takes a whole file of at most so many bytes, which it begins once. After an `Err` the file may
+/// have been read in part.
 pub fn take_all<F: Files>(
     alloc: Global,
     files: &mut F,
@@ -75,6 +82,7 @@ pub fn take_all<F: Files>(
         Rose (F.faults files.old) (F.faults files.new) }
     ensures long { result ≡ Err Taken.Long → HasLongFile (F.told files.old) name.now most }
     ensures same_files { SameFiles (F.told files.old) (F.told files.new) }
+    ensures begun { F.begun files.new ≡ F.begun files.old ++ name.now ∷ [] }
     ensures never_falls { F.faults files.old ≤ F.faults files.new }
 {
     match files.begin(name) {

@@ -1,10 +1,12 @@
 //! Bytes that come and go (docs/architecture.md). `Files`, `Source` and `Sink` are traits, each
 //! with a count of faults, which rose where a call fails (`Failed`), and with the content that is
-//! told, or None. `put_all` gives a sink all bytes in order, or a prefix where it failed (clauses
-//! `ok`, `part`); `take_all` takes a whole file up to a limit. Which calls of `MemFiles`,
-//! `MemSource` and `MemSink` fail is exact; `StdFiles`, `StdSource`, `StdSink` tell no content.
+//! told, or None; `Files` have the names too that were begun. `put_all` gives a sink all bytes in
+//! order, or a prefix where it failed (clauses `ok`, `part`); `take_all` takes a whole file up to a
+//! limit, and begins no other. Which calls of `MemFiles`, `MemSource` and `MemSink` fail is exact;
+//! `StdFiles`, `StdSource`, `StdSink` tell no content.
 #![tactic(auto)]
 
+mod begun;
 mod calls;
 mod failed;
 mod files;

@@ -7,6 +7,7 @@ ghost use Rattle.rg_io.specs.Calls.{with_fault};
 ghost use Rattle.rg_io.specs.Content.{Rose};
 ghost use Rattle.rg_io.specs.Files.{file_bytes, Begins, Reads, NothingLeft};
 
+use crate::begun::Begun;
 use crate::calls::Calls;
 use crate::failed::Failed;
 use crate::files::Files;
@@ -20,6 +21,7 @@ use std::marker::Model;
 pub struct MemFiles {
     reading: Reading,
     calls: Calls,
+    begun: Begun,
 }
 
 impl Model for MemFiles {
@@ -27,17 +29,22 @@ impl Model for MemFiles {
 
     ghost Value = { InMemoryFiles };
 
-    ghost view = { λ s. record { told = s.reading; calls = s.calls } };
+    ghost view = { λ s. record { told = s.reading; calls = s.calls; begun = s.begun.names } };
 }
 
 impl MemFiles {
     /// No files.
     pub fn new(alloc: Global) -> MemFiles
-        ensures { result ≡ record { told = record { files = []; rest = [] }; calls = no_calls } }
+        ensures { result ≡ record {
+          told = record { files = []; rest = [] };
+          calls = no_calls;
+          begun = [];
+        } }
     {
         MemFiles {
             reading: Reading::new(alloc),
             calls: Calls::new(alloc),
+            begun: Begun::new(),
         }
     }
 
@@ -64,10 +71,13 @@ impl MemFiles {
 impl Files for MemFiles {
     ghost faults = { λ s. s.calls.faults };
 
+    ghost begun = { λ s. s.begun };
+
     ghost told = { λ s. Some s.told };
 
     fn begin(&mut self, name: &str) -> Result<(), Failed>
         ensures begun { OnOk result (Begins (Some self.old.told) name.now (Some self.new.told)) }
+        ensures named { self.new.begun ≡ self.old.begun ++ name.now ∷ [] }
         ensures failed { OnErr result (Rose self.old.calls.faults self.new.calls.faults) }
         ensures kept { OnErr result (Some self.new.told ≡ Some self.old.told) }
         ensures never_falls { self.old.calls.faults ≤ self.new.calls.faults }
@@ -79,10 +89,14 @@ impl Files for MemFiles {
             rest = unwrap_or (file_bytes self.old.told.files name.now) [];
           };
           calls = with_call self.old.calls;
+          begun = self.old.begun ++ name.now ∷ [];
         }) }
-        ensures refused { OnErr result (self.new ≡
-            record self.old { calls = with_fault self.old.calls }) }
+        ensures refused { OnErr result (self.new ≡ record self.old {
+          calls = with_fault self.old.calls;
+          begun = self.old.begun ++ name.now ∷ [];
+        }) }
     {
+        self.begun = self.begun.and(name.as_bytes());
         if self.calls.is_next_failing() || !self.reading.begin(name) {
             self.calls.fail();
             return Err(Failed);
@@ -97,6 +111,7 @@ impl Files for MemFiles {
         ensures read { IfOk result (λ n.
             Reads (Some self.old.told) (Some self.new.told) (take n buf.new)) }
         ensures end { IfOk result (λ n. n ≡ 0 → NothingLeft (Some self.old.told)) }
+        ensures begins_none { self.new.begun ≡ self.old.begun }
         ensures failed { OnErr result (Rose self.old.calls.faults self.new.calls.faults) }
         ensures kept { OnErr result (Some self.new.told ≡ Some self.old.told) }
         ensures buffer_kept { OnErr result (buf.new ≡ buf.old) }
@@ -108,6 +123,7 @@ impl Files for MemFiles {
         ensures passed { IfOk result (λ n. self.new ≡ record {
           told = record self.old.told { rest = drop n self.old.told.rest };
           calls = with_call self.old.calls;
+          begun = self.old.begun;
         }) }
         ensures refused { OnErr result (self.new ≡
             record self.old { calls = with_fault self.old.calls }) }

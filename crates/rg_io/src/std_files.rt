@@ -1,10 +1,12 @@
 //! The trusted edge to the files of the system (docs/architecture.md).
 
-ghost use Rattle.std.specs.Prelude.{◌≡◌, ◌≤◌, ◌<◌, length, take, IfOk, OnOk, OnErr};
+ghost use Rattle.std.specs.Prelude.{◌≡◌, ◌≤◌, ◌<◌, ◌++◌, ◌∷◌, [], length, take};
+ghost use Rattle.std.specs.Prelude.{IfOk, OnOk, OnErr};
 ghost use Rattle.rg_io.specs.Content.{Rose, one_more};
 ghost use Rattle.rg_io.specs.Files.{Begins, Reads, NothingLeft};
 ghost use Rattle.rg_io.specs.Untold.{untold_files};
 
+use crate::begun::Begun;
 use crate::calls::count_fault;
 use crate::failed::Failed;
 use crate::files::Files;
@@ -14,7 +16,8 @@ use std::io::Read;
 use std::marker::Model;
 use std::rt::Files as SystemFiles;
 
-/// The files of the system. They tell nothing of their content; contracts see the count of faults.
+/// The files of the system. They tell nothing of their content; contracts see the count of faults
+/// and the names that were begun.
 /// A file is closed at its end: where standard input was closed before the start, the file has its
 /// descriptor, and must not be read as the input.
 #[derive(Drop)]
@@ -22,25 +25,27 @@ pub struct StdFiles<R: SystemFiles> {
     system: R,
     file: Option<R::File>,
     faults: u64,
+    begun: Begun,
 }
 
 impl<R: SystemFiles> Model for StdFiles<R> {
-    ghost use Rattle.std.specs.Prelude.{ℕ};
+    ghost use Rattle.rg_io.specs.Untold.{SystemFiles as Seen};
 
-    ghost Value = { ℕ };
+    ghost Value = { Seen };
 
-    ghost view = { λ s. s.faults };
+    ghost view = { λ s. record { faults = s.faults; begun = s.begun.names } };
 }
 
 impl<R: SystemFiles> StdFiles<R> {
     /// No file is begun.
     pub fn new(system: R) -> StdFiles<R>
-        ensures { result ≡ 0 }
+        ensures { result ≡ record { faults = 0; begun = [] } }
     {
         StdFiles {
             system,
             file: None,
             faults: 0,
+            begun: Begun::new(),
         }
     }
 }
@@ -62,20 +67,24 @@ fn read_on<F: Read + Drop>(file: &mut Option<F>, buf: &mut [u8]) -> Result<usize
 }
 
 impl<R: SystemFiles> Files for StdFiles<R> {
-    ghost faults = { λ s. s };
+    ghost faults = { λ s. s.faults };
+
+    ghost begun = { λ s. s.begun };
 
     ghost told = { untold_files };
 
     fn begin(&mut self, name: &str) -> Result<(), Failed>
         ensures begun { OnOk result (
             Begins (untold_files self.old) name.now (untold_files self.new)) }
-        ensures failed { OnErr result (Rose self.old self.new) }
+        ensures named { self.new.begun ≡ self.old.begun ++ name.now ∷ [] }
+        ensures failed { OnErr result (Rose self.old.faults self.new.faults) }
         ensures kept { OnErr result (untold_files self.new ≡ untold_files self.old) }
-        ensures never_falls { self.old ≤ self.new }
+        ensures never_falls { self.old.faults ≤ self.new.faults }
 
-        ensures same { OnOk result (self.new ≡ self.old) }
-        ensures counted { OnErr result (self.new ≡ one_more self.old) }
+        ensures same { OnOk result (self.new.faults ≡ self.old.faults) }
+        ensures counted { OnErr result (self.new.faults ≡ one_more self.old.faults) }
     {
+        self.begun = self.begun.and(name.as_bytes());
         match File::open(&self.system, name) {
             Ok(file) => {
                 self.file = Some(file);
@@ -91,13 +100,15 @@ impl<R: SystemFiles> Files for StdFiles<R> {
         ensures read { IfOk result (λ n.
             Reads (untold_files self.old) (untold_files self.new) (take n buf.new)) }
         ensures end { IfOk result (λ n. n ≡ 0 → NothingLeft (untold_files self.old)) }
-        ensures failed { OnErr result (Rose self.old self.new) }
+        ensures begins_none { self.new.begun ≡ self.old.begun }
+        ensures failed { OnErr result (Rose self.old.faults self.new.faults) }
         ensures kept { OnErr result (untold_files self.new ≡ untold_files self.old) }
         ensures buffer_kept { OnErr result (buf.new ≡ buf.old) }
-        ensures never_falls { self.old ≤ self.new }
+        ensures never_falls { self.old.faults ≤ self.new.faults }
 
         ensures same { OnOk result (self.new ≡ self.old) }
-        ensures counted { OnErr result (self.new ≡ one_more self.old) }
+        ensures counted { OnErr result (self.new ≡
+            record self.old { faults = one_more self.old.faults }) }
     {
         match read_on(&mut self.file, buf) {
             Ok(n) => Ok(n),

@@ -1,4 +1,4 @@
-use Rattle.std.proofs.Common.{arith, refl, sym, subst}
+use Rattle.std.proofs.Common.{◌∙◌, arith, refl, sym, subst}
 use Rattle.rg_io.specs.Files.{SameFiles}
 use Rattle.rg_io.proofs.Told.{Reads-then, SameFiles-same, SameFiles-read, HasFile-read, HasLongFile-read}
 use Rattle.rg_io.proofs.Told.{room-then, refused-long, refused-fault}
@@ -13,6 +13,7 @@ loop-n-preserved g c =
     record {
       taken = Reads-then _ _ _ _ _ _ c.loop-n.invariant.taken c.in-Ok-read.ensures.read piece.0;
       room = room-then _ _ _ _ _ _ piece.0 piece.1 c.loop-n.invariant.room;
+      begun = c.in-Ok-read.ensures.begins_none ∙ c.loop-n.invariant.begun;
       never_falls = omega arith;
     }
 
