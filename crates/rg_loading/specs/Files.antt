@@ -1,5 +1,5 @@
 -- What the files of a plan's `load` lines bring to a call (docs/architecture.md, "Images").
-use Rattle.std.specs.Prelude.{◌≡◌, ◌⊎◌, ℕ, List, [], ◌∷◌, Option, Result, Ok, Err}
+use Rattle.std.specs.Prelude.{◌≡◌, ◌⊎◌, ◌+◌, ℕ, List, [], ◌∷◌, take, Option, Result, Ok, Err}
 use Rattle.rg_base.specs.declared.fault.Code.TheVariants.{Image as image_code}
 use Rattle.rg_io.specs.Files.{Told, HasFile}
 use Rattle.rg_tree.specs.Tree.{Tree}
@@ -24,6 +24,11 @@ CownsCome told t cowns r = (files : List (List ℕ)) × HaveFiles told (file_nam
 -- these are the bytes of the files that are read for cowns, in order: they come to contents, or the last of them says why there are none
 abbrev pub AreRead : Option Told → Tree → List Cown → (files : List (List ℕ)) → Type 0
 AreRead told t cowns files = HaveFiles told (file_names cowns) files × ((r : Result (List CargoList) Failing) × LoadsCome t cowns files r)
+
+-- names of the files that are opened for cowns, in order: those of the lines of some first cowns, which come to contents, and of the next one
+abbrev pub OpensFor : Option Told → Tree → List Cown → (names : List (List ℕ)) → Type 0
+OpensFor told t cowns names =
+    (n : ℕ) × ((images : List CargoList) × CownsCome told t (take n cowns) (Ok images)) × (names ≡ file_names (take (n + 1) cowns))
 
 -- one cown comes to that
 abbrev pub StartComes : Option Told → Tree → Cown → Start → Result CargoList Failing → Type 0

@@ -1,12 +1,12 @@
 //! The content with which a cown begins (docs/architecture.md, "Images").
 
-ghost use Rattle.std.specs.Prelude.{◌≡◌, ◌≢◌, ◌≤◌, length, Some, Err};
+ghost use Rattle.std.specs.Prelude.{◌≡◌, ◌≢◌, ◌≤◌, ◌++◌, ◌∷◌, [], length, Some, Err};
 ghost use Rattle.std.specs.Bool.{OnTrue, OnFalse};
 ghost use Rattle.rg_tree.specs.Rows.RowTrees.{program_of};
 ghost use Rattle.rg_io.specs.Content.{Rose};
 ghost use Rattle.rg_io.specs.Files.{SameFiles, HasFile};
 ghost use Rattle.rg_opening.specs.Beginning.{bridge_class};
-ghost use Rattle.rg_loading.specs.Loading.{FileComes};
+ghost use Rattle.rg_loading.specs.Loading.{FileComes, with_name};
 ghost use Rattle.rg_loading.specs.Files.{StartComes, Brings};
 
 use crate::limits::IMAGE_BYTES;
@@ -75,6 +75,7 @@ fn image_in<F: Files>(
     ensures source_fault { result ≡ Err Status.SourceFault →
         Rose (F.faults files.old) (F.faults files.new) }
     ensures same_files { SameFiles (F.told files.old) (F.told files.new) }
+    ensures begun { F.begun files.new ≡ F.begun files.old ++ name.now ∷ [] }
     ensures never_fall { F.faults files.old ≤ F.faults files.new }
 {
     match take_all(alloc, files, name, IMAGE_BYTES) {
@@ -86,7 +87,7 @@ fn image_in<F: Files>(
 }
 
 /// The content with which a cown begins, or the status of the call without it: that of the image
-/// that its line names, or none, where it begins with a new object.
+/// that its line names, or none, where it begins with a new object and no file is opened.
 pub(crate) fn content_in<F: Files>(
     alloc: Global,
     files: &mut F,
@@ -98,6 +99,7 @@ pub(crate) fn content_in<F: Files>(
     ensures source_fault { result ≡ Err Status.SourceFault →
         Rose (F.faults files.old) (F.faults files.new) }
     ensures same_files { SameFiles (F.told files.old) (F.told files.new) }
+    ensures begun { F.begun files.new ≡ F.begun files.old ++ with_name cown.now.start [] }
     ensures never_fall { F.faults files.old ≤ F.faults files.new }
 {
     match &cown.start {

@@ -3,10 +3,10 @@
 ghost use Rattle.std.specs.Prelude.{◌≡◌, ◌≤◌, ℕ, List, Ok, Err, IfOk};
 ghost use Rattle.rg_tree.specs.Rows.RowTrees.{program_of};
 ghost use Rattle.rg_io.specs.Content.{Rose};
-ghost use Rattle.rg_io.specs.Files.{SameFiles};
+ghost use Rattle.rg_io.specs.Files.{SameFiles, BegunAre};
 ghost use Rattle.rg_plan.specs.Rules.{plan_of};
 ghost use Rattle.rg_world.specs.Worlds.{IsReadFor};
-ghost use Rattle.rg_loading.specs.Files.{CownsCome, Brings};
+ghost use Rattle.rg_loading.specs.Files.{CownsCome, OpensFor, Brings};
 
 use crate::content::content_in;
 use rg_check::Accepted;
@@ -35,6 +35,8 @@ pub fn images_in<F: Files>(
     ensures source_fault { result ≡ Err Status.SourceFault →
         Rose (F.faults files.old) (F.faults files.new) }
     ensures same_files { SameFiles (F.told files.old) (F.told files.new) }
+    ensures begun { BegunAre (OpensFor (F.told files.old) (program_of accepted.now.program)
+        plan.now.cowns) (F.begun files.old) (F.begun files.new) }
     ensures never_fall { F.faults files.old ≤ F.faults files.new }
 {
     let mut images = Vec::new(alloc);

@@ -1,7 +1,7 @@
 use Rattle.std.proofs.Common.{◌≤◌, inr, length, Ok, arith}
 use Rattle.rg_tree.specs.Rows.RowTrees.{program_of}
 use Rattle.rg_loading.specs.Files.{CownsCome, memory}
-use Rattle.rg_loading.proofs.Coming.{status-ends, same-after, start-before, one-leads, all-lead}
+use Rattle.rg_loading.proofs.Coming.{status-ends, same-after, start-before, one-leads, all-lead, opened-next, opened-for, opened-all}
 use Rattle.rg_loading.proofs.Read.{is-read}
 use Rattle.rg_loading.proofs.images.images_in.Given.{Over}
 use Rattle.rg_loading.proofs.images.images_in.Goals.{After-loop-i}
@@ -27,6 +27,7 @@ loop-i-preserved g c =
     let has = start-before told mid t cown cown.start (Ok c.in-Ok.content) now.invariant.same c.in-Ok.ensures.brings in
     record {
       same = same-after told mid (g.F.Files.told c.content_in.new.files) now.invariant.same c.content_in.ensures.same_files;
+      begun = opened-next cowns now.i cown _ _ _ c.cown.ensures now.invariant.begun c.content_in.ensures.begun;
       rising = omega (arith, now.invariant.rising, c.content_in.ensures.never_fall);
       lead = one-leads told t cowns now.i now.images.items c.push.new.self.items cown c.in-Ok.content c.cown.ensures has c.in-Ok-push.ensures.items
           now.invariant.lead;
@@ -43,6 +44,24 @@ come g c =
 
 pub returns-clause-brings : goal.returns-clause-brings
 returns-clause-brings g c = come g c
+
+pub returns-in-Err-clause-begun : goal.returns-in-Err-clause-begun
+returns-in-Err-clause-begun g c =
+    let now = c.loop-i in
+    opened-for _ _ c.args.plan.now.cowns now.i now.images.items c.cown.result.now _ _ _ c.cown.ensures now.invariant.lead now.invariant.begun
+    c.content_in.ensures.begun
+
+pub returns-in_default-clause-begun : goal.returns-in_default-clause-begun
+returns-in_default-clause-begun g c =
+    let now = c.loop-i in
+    opened-for _ _ c.args.plan.now.cowns now.i now.images.items c.cown.result.now _ _ _ c.cown.ensures now.invariant.lead now.invariant.begun
+    c.content_in.ensures.begun
+
+pub returns-clause-begun : goal.returns-clause-begun
+returns-clause-begun g c =
+    let now = c.loop-i in
+    let all : length c.args.plan.now.cowns ≤ now.i = omega (arith, c.loop-i-test.false, c.cowns-i-end.ensures) in
+    opened-all _ _ c.args.plan.now.cowns now.i now.images.items _ _ all now.invariant.lead now.invariant.begun
 
 pub returns-clause-read : goal.returns-clause-read
 returns-clause-read g c bytes read =
