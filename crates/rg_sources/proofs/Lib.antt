@@ -2,3 +2,4 @@
 pub mod Meaning
 pub mod Read
 mod Examples
+mod Opened

@@ -91,7 +91,7 @@ generated-found told size t is accepted = record {
 }
 
 -- a file that is read behind another one has the bytes that it had before
-file-before : (old mid : Option Told) (name bytes : List ℕ) → SameFiles old mid → HasFile mid name bytes → HasFile old name bytes
+pub file-before : (old mid : Option Told) (name bytes : List ℕ) → SameFiles old mid → HasFile mid name bytes → HasFile old name bytes
 file-before None mid name bytes same h = tt
 file-before (Some t) None name bytes same h = absurd same
 file-before (Some t) (Some u) name bytes same h =
@@ -105,7 +105,7 @@ same-after (Some a) (Some b) None same then = absurd then
 same-after (Some a) (Some b) (Some c) same then = then ∙ same
 
 -- so have files
-files-before : (old mid : Option Told) (names files : List (List ℕ)) → SameFiles old mid → HaveFiles mid names files → HaveFiles old names files
+pub files-before : (old mid : Option Told) (names files : List (List ℕ)) → SameFiles old mid → HaveFiles mid names files → HaveFiles old names files
 files-before old mid names [] same h = tt
 files-before old mid [] (bytes ∷ files) same h = absurd h
 files-before old mid (name ∷ names) (bytes ∷ files) same h = (file-before old mid name bytes same h.0, files-before old mid names files same h.1)
@@ -128,7 +128,7 @@ program-refuses told file plan keep status.Long h =
     (alone h.0, (h.1, λ t k. absurd (omega (arith, h.2, k.0.0)), λ t p k. absurd (omega (arith, h.2, k.0.0.0.0))), inl h.2)
 
 -- the bytes of a program and its plan, with those of images
-abbrev both : (source plan : List ℕ) → (images : List (List ℕ)) → Sources
+abbrev pub both : (source plan : List ℕ) → (images : List (List ℕ)) → Sources
 both source plan images = record { file = source; plan = plan; images = images }
 
 -- a plan with a fault, or without the cown that is kept, has no images

@@ -2,11 +2,12 @@
 
 ghost use Rattle.std.specs.Prelude.{◌≡◌, ◌≢◌, ◌≤◌, false, Option, Err};
 ghost use Rattle.rg_io.specs.Content.{Rose};
-ghost use Rattle.rg_io.specs.Files.{Told};
+ghost use Rattle.rg_io.specs.Files.{Told, BegunAre};
 ghost use Rattle.rg_make.specs.declared.whole.TheConstants.{MOST_SIZE};
 ghost use Rattle.rg_words.specs.Commands.{generated, origin_of, opens_file};
 ghost use Rattle.rg_words.specs.Requests.{command_of, AsksWithin};
 ghost use Rattle.rg_sources.specs.Brings.{Brings};
+ghost use Rattle.rg_sources.specs.Opens.{Opens};
 
 use crate::source::program_in;
 use rg_io::Files;
@@ -35,6 +36,8 @@ pub fn program_from<F: Files>(
 ) -> Result<Program, Status>
     requires { AsksWithin request }
     ensures brings { Brings (F.told files.old) (origin_of (command_of request.entry)) result }
+    ensures opened { BegunAre (Opens (F.told files.old) (origin_of (command_of request.entry)))
+        (F.begun files.old) (F.begun files.new) }
     ensures unread { opens_file (command_of request.entry) ≡ false → files.new ≡ files.old }
     ensures source_fault { result ≡ Err Status.SourceFault →
         Rose (F.faults files.old) (F.faults files.new) }

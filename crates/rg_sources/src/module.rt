@@ -1,6 +1,6 @@
 //! The program of a module (docs/promises.md, "The headline").
 
-ghost use Rattle.std.specs.Prelude.{◌≡◌, ◌≤◌, length, Err, IfOk};
+ghost use Rattle.std.specs.Prelude.{◌≡◌, ◌≤◌, ◌++◌, ◌∷◌, [], length, Err, IfOk};
 ghost use Rattle.rg_base.specs.declared.fault.Fault.{Fault};
 ghost use Rattle.rg_words.specs.declared.limits.TheConstants.{MODULE_BYTES};
 ghost use Rattle.rg_tree.specs.Rows.RowTrees.{program_of};
@@ -38,6 +38,7 @@ pub fn module_in<F: Files>(alloc: Global, name: &str, files: &mut F) -> Result<A
     ensures source_fault { result ≡ Err Status.SourceFault →
         Rose (F.faults files.old) (F.faults files.new) }
     ensures same_files { SameFiles (F.told files.old) (F.told files.new) }
+    ensures begun { F.begun files.new ≡ F.begun files.old ++ name.now ∷ [] }
     ensures never_fall { F.faults files.old ≤ F.faults files.new }
 {
     let bytes = match take_all(alloc, files, name, MODULE_BYTES) {

@@ -1,12 +1,14 @@
 //! A program with a plan (docs/promises.md, "The headline").
 
-ghost use Rattle.std.specs.Prelude.{◌≡◌, ◌≤◌, Err, IfOk};
+ghost use Rattle.std.specs.Prelude.{◌≡◌, ◌≤◌, ◌++◌, ◌∷◌, [], Err, IfOk};
 ghost use Rattle.rg_tree.specs.Rows.RowTrees.{program_of};
 ghost use Rattle.rg_io.specs.Content.{Rose};
-ghost use Rattle.rg_io.specs.Files.{SameFiles};
+ghost use Rattle.rg_io.specs.Files.{SameFiles, BegunAre};
 ghost use Rattle.rg_world.specs.Worlds.{IsReadFor};
+ghost use Rattle.rg_words.specs.Commands.{with_plan};
 ghost use Rattle.rg_sources.specs.Sources.{has_kept};
 ghost use Rattle.rg_sources.specs.Brings.{BringsPlan, BringsKeeping, BringsPlanned};
+ghost use Rattle.rg_sources.specs.Opens.{Opens};
 
 use crate::source::accepted_in;
 use rg_base::{Code, Fault, SOURCE_BYTES, Stop};
@@ -30,6 +32,7 @@ fn plan_in<F: Files>(
     ensures source_fault { result ≡ Err Status.SourceFault →
         Rose (F.faults files.old) (F.faults files.new) }
     ensures same_files { SameFiles (F.told files.old) (F.told files.new) }
+    ensures begun { F.begun files.new ≡ F.begun files.old ++ name.now ∷ [] }
     ensures never_fall { F.faults files.old ≤ F.faults files.new }
 {
     let bytes = match take_all(alloc, files, name, SOURCE_BYTES) {
@@ -78,6 +81,7 @@ fn keeping_plan_in<F: Files>(
     ensures source_fault { result ≡ Err Status.SourceFault →
         Rose (F.faults files.old) (F.faults files.new) }
     ensures same_files { SameFiles (F.told files.old) (F.told files.new) }
+    ensures begun { F.begun files.new ≡ F.begun files.old ++ name.now ∷ [] }
     ensures never_fall { F.faults files.old ≤ F.faults files.new }
 {
     let plan = match plan_in(alloc, name, files, accepted) {
@@ -111,6 +115,8 @@ pub fn planned_in<F: Files>(
     ensures source_fault { result ≡ Err Status.SourceFault →
         Rose (F.faults files.old) (F.faults files.new) }
     ensures same_files { SameFiles (F.told files.old) (F.told files.new) }
+    ensures opened { BegunAre (Opens (F.told files.old) (with_plan file.now plan.now keep))
+        (F.begun files.old) (F.begun files.new) }
     ensures never_fall { F.faults files.old ≤ F.faults files.new }
 {
     let accepted = match accepted_in(alloc, file, files) {

@@ -1,6 +1,6 @@
 //! The program of a source (docs/promises.md, "The headline").
 
-ghost use Rattle.std.specs.Prelude.{◌≡◌, ◌≤◌, ◌⊎◌, length, Err, IfOk};
+ghost use Rattle.std.specs.Prelude.{◌≡◌, ◌≤◌, ◌⊎◌, ◌++◌, ◌∷◌, [], length, Err, IfOk};
 ghost use Rattle.rg_base.specs.declared.fault.Fault.{Fault};
 ghost use Rattle.rg_base.specs.declared.limits.TheConstants.{SOURCE_BYTES};
 ghost use Rattle.rg_base.specs.Tokens.{cut};
@@ -47,6 +47,7 @@ pub(crate) fn program_in<F: Files>(
     ensures source_fault { result ≡ Err Status.SourceFault →
         Rose (F.faults files.old) (F.faults files.new) }
     ensures same_files { SameFiles (F.told files.old) (F.told files.new) }
+    ensures begun { F.begun files.new ≡ F.begun files.old ++ name.now ∷ [] }
     ensures never_fall { F.faults files.old ≤ F.faults files.new }
 {
     let source = match take_all(alloc, files, name, SOURCE_BYTES) {
@@ -72,6 +73,7 @@ pub(crate) fn accepted_in<F: Files>(
     ensures source_fault { result ≡ Err Status.SourceFault →
         Rose (F.faults files.old) (F.faults files.new) }
     ensures same_files { SameFiles (F.told files.old) (F.told files.new) }
+    ensures begun { F.begun files.new ≡ F.begun files.old ++ name.now ∷ [] }
     ensures never_fall { F.faults files.old ≤ F.faults files.new }
 {
     let program = match program_in(alloc, name, files) {
