@@ -3,12 +3,14 @@
 ghost use Rattle.std.specs.Prelude.{◌≡◌, ◌≤◌, ℕ, List, false};
 ghost use Rattle.rg_tree.specs.Rows.RowTrees.{program_of};
 ghost use Rattle.rg_io.specs.Content.{Rose};
+ghost use Rattle.rg_io.specs.Files.{BegunAre};
 ghost use Rattle.rg_step.specs.Pacers.{SameTuned, both};
 ghost use Rattle.rg_words.specs.Commands.{origin_of, opens_file, reads_input, is_slide};
 ghost use Rattle.rg_words.specs.Commands.{runs_on, is_scheduled};
 ghost use Rattle.rg_words.specs.Requests.{command_of, command_for, AsksWithin, TaskWithin};
 ghost use Rattle.rg_sources.specs.Sources.{Sources, spelt, MeansFrom};
 ghost use Rattle.rg_sources.specs.Brings.{Serves};
+ghost use Rattle.rg_sources.specs.Opens.{Opens};
 ghost use Rattle.rg_commands.specs.Settled.{Tunes, Chooses};
 ghost use Rattle.rg_commands.specs.Setting.{IsUnused, IsLent, SlidesTo, SettlesIn};
 ghost use Rattle.rg_commands.specs.Setting.{SettlesCommandIn, CausedIn, ReportedOf};
@@ -85,6 +87,8 @@ impl<O: Sink, R: Sink> Setting<'_, O, R> {
         requires within { AsksWithin request }
         ensures settles { SettlesCommandIn O.taken (F.told files.old) (command_of request.entry)
             (I.left input.old) result self.old self.new (input.new ≡ input.old) }
+        ensures opened { BegunAre (Opens (F.told files.old)
+            (origin_of (command_of request.entry))) (F.begun files.old) (F.begun files.new) }
         ensures files_unread { opens_file (command_of request.entry) ≡ false →
             files.new ≡ files.old }
         ensures reads_nothing { reads_input (command_of request.entry) ≡ false →
@@ -127,6 +131,8 @@ impl<O: Sink, R: Sink> Setting<'_, O, R> {
         requires within { TaskWithin task }
         ensures settles { SettlesCommandIn O.taken (F.told files.old) (command_for task.entry)
             (I.left input.old) result self.old self.new (input.new ≡ input.old) }
+        ensures opened { BegunAre (Opens (F.told files.old) (origin_of (command_for task.entry)))
+            (F.begun files.old) (F.begun files.new) }
         ensures files_unread { opens_file (command_for task.entry) ≡ false →
             files.new ≡ files.old }
         ensures reads_nothing { reads_input (command_for task.entry) ≡ false →

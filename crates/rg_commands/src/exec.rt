@@ -1,6 +1,6 @@
 //! `exec FILE [--steps N] [--every N] [--report]`: runs a module that programs raise.
 
-ghost use Rattle.std.specs.Prelude.{◌≡◌, ◌≤◌, false};
+ghost use Rattle.std.specs.Prelude.{◌≡◌, ◌≤◌, ◌++◌, ◌∷◌, [], false};
 ghost use Rattle.rg_io.specs.Content.{Rose};
 ghost use Rattle.rg_run.specs.Machine.{IsFresh};
 ghost use Rattle.rg_words.specs.Commands.{exec, in_module};
@@ -29,6 +29,7 @@ impl<O: Sink, R: Sink> Setting<'_, O, R> {
         ensures settles { SettlesCommandIn O.taken (F.told files.old)
             (exec file.now options.steps options.every options.report)
             (I.left input.old) result self.old self.new (input.new ≡ input.old) }
+        ensures begun { F.begun files.new ≡ F.begun files.old ++ file.now ∷ [] }
         ensures notes { ReportedIn R.taken options.report result self.old self.new }
         ensures tuned { ¬ IsFresh self.new.machine.now →
             TunedTo options.every (tally count.new) (tally trace.new) }

@@ -2,8 +2,10 @@
 
 ghost use Rattle.std.specs.Prelude.{◌≡◌, ◌≤◌};
 ghost use Rattle.rg_io.specs.Content.{Rose};
+ghost use Rattle.rg_io.specs.Files.{BegunAre};
 ghost use Rattle.rg_step.specs.Pacers.{SameTuned, both};
-ghost use Rattle.rg_words.specs.Commands.{when};
+ghost use Rattle.rg_words.specs.Commands.{when, with_plan};
+ghost use Rattle.rg_sources.specs.Opens.{Opens};
 ghost use Rattle.rg_commands.specs.Setting.{IsUnused, IsLent, SettlesCommandIn, CausedIn};
 
 use crate::setting::Setting;
@@ -29,6 +31,8 @@ impl<O: Sink, R: Sink> Setting<'_, O, R> {
         requires { IsUnused self.old }
         ensures settles { SettlesCommandIn O.taken (F.told files.old) (when file.now plan.now keep)
             (I.left input.old) result self.old self.new (input.new ≡ input.old) }
+        ensures opened { BegunAre (Opens (F.told files.old) (with_plan file.now plan.now keep))
+            (F.begun files.old) (F.begun files.new) }
         ensures notes { R.taken self.new.notes.now ≡ R.taken self.old.notes.now }
         ensures machine { self.new.machine.now ≡ self.old.machine.now }
         ensures tuned { SameTuned (both (tally count.old) (tally trace.old))

@@ -1,10 +1,10 @@
 -- From what the layers under the top call have answered to the words of the headline.
 use Rattle.std.proofs.Common.{◌≡◌, ◌≢◌, ℕ, suc, ◌<◌, ◌≤◌, ◌⊎◌, inl, inr, Bool, true, false, List, length, replicate, Option, Some, None, refl, sym}
-use Rattle.std.proofs.Common.{◌∙◌, ap, subst, arith}
+use Rattle.std.proofs.Common.{[], ◌∙◌, ap, subst, arith}
 use Rattle.std.specs.Bool.{OnTrue, OnFalse}
-use Rattle.std.proofs.lemmas.List.{length-replicate}
+use Rattle.std.proofs.lemmas.List.{length-replicate, append-nil}
 use Rattle.rg_io.specs.Content.{Rose}
-use Rattle.rg_io.specs.Files.{Told}
+use Rattle.rg_io.specs.Files.{Told, BegunAre}
 use Rattle.rg_io.proofs.Content.{Rose-since}
 use Rattle.rg_run.specs.Machine.{Kept, numbers_of}
 use Rattle.rg_words.specs.declared.status.Status.{Status}
@@ -14,12 +14,13 @@ use Rattle.rg_words.specs.Commands.{may_schedule, steps_of}
 use Rattle.rg_words.specs.Statuses.{is_answer, is_refusal, is_cut_off, is_from_outside, IsBadSchedule}
 use Rattle.rg_words.specs.Answers.{ForInput}
 use Rattle.rg_sources.specs.Sources.{Sources, HasSource}
+use Rattle.rg_sources.specs.Opens.{Opens}
 use Rattle.rg_commands.specs.Expected.{ExpectsStatus}
 use Rattle.rg_commands.specs.CutOff.{Untouched, CutOffAt, CutAtInput}
 use Rattle.rg_commands.specs.Settled.{RanSchedule, Settles, Unread, source_fault, memory, SettlesCommand, Tunes, Chooses}
 use Rattle.rg_commands.proofs.Meaning.{expects-one, refusal-any}
 use Rattle.rg_top.specs.Each.{StandsForEach}
-use Rattle.rg_top.specs.Headline.{ForSource, Exactly, ExactlyWhere, Answers, IsExpected, MayTell, UnlessSchedule}
+use Rattle.rg_top.specs.Headline.{ForSource, Exactly, ExactlyWhere, Answers, IsExpected, MayTell, UnlessSchedule, OpensBy}
 use Rattle.rg_commands.specs.Laws.{OneAnswer}
 use Rattle.rg_top.specs.Inner.Told.{Becomes}
 use Rattle.rg_top.proofs.Settled.{answers-of, cut-of, status-of, schedule-of, schedule-cut, schedule-input, schedule-status, schedule-refused}
@@ -369,6 +370,16 @@ answer-unrun words c P e h = rw e (on-false (runs_on c) h)
 pub answer-unopened : (words : List (List ℕ)) (c : Command) (P : Type 0) → command words ≡ Some c → (opens_file c ≡ false → P) →
     OnFalse (may_open (command words)) P
 answer-unopened words c P e h = rw e (on-false (opens_file c) h)
+
+-- the files that a command opens are those that the words have opened
+pub answer-opened : (told : Option Told) (words : List (List ℕ)) (c : Command) (old new : List (List ℕ)) → command words ≡ Some c →
+    BegunAre (Opens told (origin_of c)) old new → BegunAre (OpensBy told (command words)) old new
+answer-opened told words c old new e h = rw e h
+
+-- and where they give no command, none is
+pub usage-opened : (told : Option Told) (words : List (List ℕ)) (old : List (List ℕ)) → command words ≡ None →
+    BegunAre (OpensBy told (command words)) old old
+usage-opened told words old e = rw e ([], refl, sym (append-nil old))
 
 -- what was answered to a source was expected of it
 expects-of : (told : Option Told) (left : Option (List ℕ)) (words : List (List ℕ)) (s : Status) (old new : Option (List ℕ)) (m : Kept) (still : Type 0) →

@@ -22,6 +22,7 @@ use Rattle.rg_words.specs.Commands.{may_schedule}
 use Rattle.rg_words.specs.Statuses.{status_text, is_from_outside, IsBadSchedule}
 use Rattle.rg_words.specs.Answers.{HasInput, ForInput}
 use Rattle.rg_sources.specs.Sources.{Sources, Meaning, too_long, faulty, spelt, planned, HasSource, MeansFrom}
+use Rattle.rg_sources.specs.Opens.{Opens}
 use Rattle.rg_commands.specs.Expected.{expected, ExpectsStatus}
 
 -- a fact on the command that the words give, on a source that its program has, and on the input: a file's bytes, where files
@@ -29,6 +30,11 @@ use Rattle.rg_commands.specs.Expected.{expected, ExpectsStatus}
 abbrev pub ForSource : Option Told → (left : Option (List ℕ)) → (words : List (List ℕ)) → (Command → (source : Sources) (input : List ℕ) → Type 0) → Type 0
 ForSource told left words P =
     (c : Command) × (source : Sources) × (command words ≡ Some c) × HasSource told (origin_of c) source × ForInput left (P c source)
+
+-- the names of the files that are opened, in order: those that the command opens for its program; none where the words give none
+abbrev pub OpensBy : Option Told → Option Command → (names : List (List ℕ)) → Type 0
+OpensBy told None names = names ≡ []
+OpensBy told (Some c) names = Opens told (origin_of c) names
 
 -- the one fact, where the checker has no fault, else the other
 abbrev pub IfAccepted : Option Fault → (accepted refused : Type 0) → Type 0

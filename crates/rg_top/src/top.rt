@@ -8,6 +8,7 @@ ghost use Rattle.rg_base.specs.declared.fault.Fault.{Fault};
 ghost use Rattle.rg_base.specs.declared.outcome.Trap.{Trap};
 ghost use Rattle.rg_tree.specs.Rows.Tables.{Tables};
 ghost use Rattle.rg_io.specs.Content.{Rose};
+ghost use Rattle.rg_io.specs.Files.{BegunAre};
 ghost use Rattle.rg_machine.specs.Owned.{IsOwned};
 ghost use Rattle.rg_step.specs.Pacers.{SameTuned, both};
 ghost use Rattle.rg_run.specs.Sound.{Stands};
@@ -20,7 +21,7 @@ ghost use Rattle.rg_words.specs.Statuses.{is_answer, is_refusal, is_cut_off, IsB
 ghost use Rattle.rg_commands.specs.Expected.{ExpectsStatus};
 ghost use Rattle.rg_commands.specs.CutOff.{Untouched, CutOffAt, CutAtInput};
 ghost use Rattle.rg_top.specs.Headline.{ForSource, Exactly, ExactlyWhere, Answers, TookNotes};
-ghost use Rattle.rg_top.specs.Headline.{ToldFault, MayTell, steps_asked, UnlessSchedule};
+ghost use Rattle.rg_top.specs.Headline.{ToldFault, MayTell, steps_asked, UnlessSchedule, OpensBy};
 ghost use Rattle.rg_top.specs.Each.{StandsForEach, AsksForEach};
 ghost use Rattle.rg_commands.specs.Asked.{Unasked, RunAsks, SayYes, input_for};
 
@@ -136,6 +137,8 @@ pub fn reggio<F: Files, I: Source, O: Sink, R: Sink>(
         ¬ Rose (R.faults notes.old) (R.faults notes.new) →
         ToldFault (may_report (command (texts words.now))) machine.new.stepper.events
         (R.taken notes.old) (R.taken notes.new) }
+    ensures opened { BegunAre (OpensBy (F.told files.old) (command (texts words.now)))
+        (F.begun files.old) (F.begun files.new) }
     ensures files_unread { OnFalse (may_open (command (texts words.now)))
         (files.new ≡ files.old) }
     ensures reads_nothing { OnFalse (may_read (command (texts words.now)))

@@ -10,7 +10,7 @@ use Rattle.rg_words.specs.Statuses.{is_refusal}
 use Rattle.rg_commands.specs.Settled.{Chooses}
 use Rattle.rg_top.proofs.Answer.{Answered, answer-exactly, answer-refused, answer-complete, answer-unread, answer-unrun, on-false}
 use Rattle.rg_top.proofs.Answer.{answer-unopened, answer-untouched, answer-output, answer-tuned, answer-usage, given-is, answer-chooses, tuned-moved}
-use Rattle.rg_top.proofs.Answer.{answer-may, settles-moved, usage-exactly, on-fact}
+use Rattle.rg_top.proofs.Answer.{answer-may, settles-moved, usage-exactly, on-fact, answer-opened, usage-opened}
 use Rattle.rg_top.proofs.NoteLines.{asked-notes, asked-fault, unasked-notes, took-moved}
 use Rattle.rg_top.proofs.Asked.{asked-words, asked-moved}
 use Rattle.rg_commands.proofs.Asked.{yeses-fresh}
@@ -118,6 +118,13 @@ returns-in-Some-clause-reads_nothing g c =
 pub returns-in-Some-clause-files_unread : goal.returns-in-Some-clause-files_unread
 returns-in-Some-clause-files_unread g c =
     answer-unopened (texts c.args.words.now) (command_for c.in-Some.task) _ c.in-Some.ensures.is c.answer-status.ensures.files_unread
+
+pub returns-in-Some-clause-opened : goal.returns-in-Some-clause-opened
+returns-in-Some-clause-opened g c =
+    answer-opened _ (texts c.args.words.now) (command_for c.in-Some.task) _ _ c.in-Some.ensures.is c.answer-status.ensures.opened
+
+pub returns-in-None-clause-opened : goal.returns-in-None-clause-opened
+returns-in-None-clause-opened g c = usage-opened _ (texts c.args.words.now) _ c.in-None.ensures.is
 
 pub returns-in-Some-clause-usage : goal.returns-in-Some-clause-usage
 returns-in-Some-clause-usage g c = answer-usage (answered g c refl refl)

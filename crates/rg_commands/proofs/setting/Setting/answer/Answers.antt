@@ -1,4 +1,4 @@
-use Rattle.std.proofs.Common.{sym, subst}
+use Rattle.std.proofs.Common.{refl, sym, subst}
 use Rattle.rg_run.specs.Machine.{IsFresh}
 use Rattle.rg_commands.proofs.Settled.{no_lie}
 use Rattle.rg_commands.proofs.setting.Setting.answer.Goals as goal
@@ -48,3 +48,12 @@ returns-in-OfModule-clause-untuned g c = rw c.in-OfModule.is (λ off. absurd (no
 
 pub returns-in-OfPlan-clause-untuned : goal.returns-in-OfPlan-clause-untuned
 returns-in-OfPlan-clause-untuned g c = λ off. c.answer_plan.ensures.tuned
+
+pub returns-in-OfProgram-clause-opened : goal.returns-in-OfProgram-clause-opened
+returns-in-OfProgram-clause-opened g c = rw c.in-OfProgram.is c.answer_request.ensures.opened
+
+pub returns-in-OfModule-clause-opened : goal.returns-in-OfModule-clause-opened
+returns-in-OfModule-clause-opened g c = rw c.in-OfModule.is (_, refl, c.answer_module.ensures.begun)
+
+pub returns-in-OfPlan-clause-opened : goal.returns-in-OfPlan-clause-opened
+returns-in-OfPlan-clause-opened g c = rw c.in-OfPlan.is c.answer_plan.ensures.opened
