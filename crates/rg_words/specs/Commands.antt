@@ -142,7 +142,7 @@ abbrev pub may_read : Option Command → Bool
 may_read None = false
 may_read (Some c) = reads_input c
 
--- whether what the words give runs a program there
+-- whether what the words give runs a program on the machine that is handed in
 abbrev pub may_run : Option Command → Bool
 may_run None = false
 may_run (Some c) = runs_on c

@@ -10,13 +10,14 @@ use rg_base::{Fault, Trap};
 pub enum Status {
     /// 0: the program is done, or the command's text is written
     Done,
-    /// 1: the source, or the module, has that fault
+    /// 1: the source has that fault, or the module, the plan, an image or the schedule
     Refused(Fault),
     /// 2: the words are no command
     Usage,
     /// 3: a step stopped the program, at a line counted from 1
     Trap { kind: Trap, line: u64 },
-    /// 4: the program still runs after all steps that were asked for
+    /// 4: the program still runs after all steps that were asked for, or the schedule has more
+    /// numbers than it may
     Spent,
     /// 4: a running behaviour has the content that was to be kept, behind so many numbers
     Away { taken: u64 },
@@ -28,7 +29,8 @@ pub enum Status {
     OutputFault,
     /// 8: no memory was found
     Memory,
-    /// 9: the source has more than 1,048,576 bytes, or the module more than 16,777,216
+    /// 9: the source or the plan has more than 1,048,576 bytes, or the module or an image more
+    /// than 16,777,216
     Long,
 }
 
