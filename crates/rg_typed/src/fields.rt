@@ -1,6 +1,6 @@
 //! Values against the types of fields and elements (docs/architecture.md, "Cargo").
 
-ghost use Rattle.std.specs.Prelude.{◌≡◌, ◌<◌, All, Some, length, map, filter_map, slice_get};
+ghost use Rattle.std.specs.Prelude.{◌≡◌, ◌<◌, ◌==◌, All, Some, length, map, filter_map, slice_get};
 ghost use Rattle.std.specs.Prelude.{◌&&◌, not, nat_le};
 ghost use Rattle.std.specs.List.{list_all};
 ghost use Rattle.rg_base.specs.declared.limits.TheConstants.{ARRAY_SIZE};
@@ -13,12 +13,13 @@ ghost use Rattle.rg_rules.specs.Headers as headers;
 ghost use Rattle.rg_cown.specs.Cargo as cargo;
 ghost use Rattle.rg_typed.specs.Typed as typed;
 
-use rg_base::{ARRAY_SIZE, Cap, Label, Ty, Val, Vals};
-use rg_cown::CargoCell;
-use rg_names::Book;
+use rg_base::{ARRAY_SIZE, Cap, Label, Val};
+use rg_cown::{CargoCell, Fields};
+use rg_names::{Book, tables_are_of_good_headers};
 use rg_tree::{MemberRow, TypeRow};
 
 // Whether a label is that of a region.
+#[inline(always)]
 fn is_in(region: u64, label: Label) -> bool
     ensures { result ≡ cargo.is_in region (Some label) }
 {
@@ -29,6 +30,7 @@ fn is_in(region: u64, label: Label) -> bool
 }
 
 // Whether a label is that of a region other than this one.
+#[inline(always)]
 fn is_outside(region: u64, label: Label) -> bool
     ensures { result ≡ typed.is_outside region label }
 {
@@ -39,6 +41,7 @@ fn is_outside(region: u64, label: Label) -> bool
 }
 
 // Whether a label is that of a frozen object.
+#[inline(always)]
 fn is_frozen(label: Label) -> bool
     ensures { result ≡ cargo.is_frozen (Some label) }
 {
@@ -49,6 +52,7 @@ fn is_frozen(label: Label) -> bool
 }
 
 // Whether a field of a capability may lead there, in an object of a region.
+#[inline(always)]
 fn region_field_fits(region: u64, cap: Cap, to: Label) -> bool
     ensures { result ≡ typed.region_field_fits region cap to }
 {
@@ -61,6 +65,7 @@ fn region_field_fits(region: u64, cap: Cap, to: Label) -> bool
 }
 
 // The same in an object with a label.
+#[inline(always)]
 fn field_fits(own: Label, cap: Cap, to: Label) -> bool
     ensures { result ≡ typed.field_fits own cap to }
 {
@@ -68,40 +73,6 @@ fn field_fits(own: Label, cap: Cap, to: Label) -> bool
         Label::Region(region) => region_field_fits(region, cap, to),
         Label::Temp(_) => false,
         Label::Frozen => is_frozen(to),
-    }
-}
-
-// Whether there is an object of the class, to which a field of that capability may lead.
-fn object_fits(cells: &[CargoCell], own: Label, cap: Cap, class: u32, object: u64) -> bool
-    ensures { result ≡ typed.object_fits own cap class (slice_get cells.now object) }
-{
-    let Some(found) = cells.get(object as usize) else {
-        return false;
-    };
-    if found.class != class {
-        return false;
-    }
-    field_fits(own, cap, found.label)
-}
-
-// Whether a value meets a type, in an object with a label.
-fn value_fits(cells: &[CargoCell], own: Label, ty: Ty, value: Val) -> bool
-    ensures { result ≡ typed.value_fits cells.now own ty value }
-{
-    match ty {
-        Ty::Int => match value {
-            Val::Int(_) => true,
-            Val::Nil | Val::Bool(_) | Val::Obj(_) => false,
-        },
-        Ty::Bool => match value {
-            Val::Bool(_) => true,
-            Val::Nil | Val::Int(_) | Val::Obj(_) => false,
-        },
-        Ty::Ref { cap, class } => match value {
-            Val::Nil => true,
-            Val::Int(_) | Val::Bool(_) => false,
-            Val::Obj(object) => object_fits(cells, own, cap, class, object),
-        },
     }
 }
 
@@ -117,23 +88,74 @@ fn class_number(book: &Book, name: u32) -> u32
     }
 }
 
-// The type that is written so.
-fn type_of(book: &Book, ty: TypeRow) -> Ty
+// Whether a class is that of a name. Where it is there and has the name, nothing is looked up.
+#[inline(always)]
+fn is_class_of(book: &Book, class: u32, name: u32) -> bool
+    requires { IsNameIn book.now.program name }
+    ensures { let t = book.now.program in
+        result ≡ (class == types.class_number (rows.classes_of t) (name_at t name)) }
+{
+    if class < book.class_count() {
+        let _ = book.program();
+        tables_are_of_good_headers();
+        if book.is_same(book.class(class).name, name) {
+            return true;
+        }
+    }
+    class == class_number(book, name)
+}
+
+// Whether there is an object of the class of a name, to which a field of that capability may lead.
+#[inline(always)]
+fn object_fits(
+    book: &Book,
+    cells: &[CargoCell],
+    own: Label,
+    cap: Cap,
+    name: u32,
+    object: u64,
+) -> bool
+    requires { IsNameIn book.now.program name }
+    ensures { let t = book.now.program in
+        result ≡ typed.object_fits own cap (types.class_number (rows.classes_of t) (name_at t name))
+        (slice_get cells.now object) }
+{
+    let Some(found) = cells.get(object as usize) else {
+        return false;
+    };
+    if !is_class_of(book, found.class, name) {
+        return false;
+    }
+    field_fits(own, cap, found.label)
+}
+
+// Whether a value meets a type that is written so, in an object with a label.
+#[inline(always)]
+fn value_fits(book: &Book, cells: &[CargoCell], own: Label, ty: TypeRow, value: Val) -> bool
     requires { IsTypeIn book.now.program ty }
     ensures { let t = book.now.program in
-        result ≡ types.type_of (rows.classes_of t) (rows.type_of t ty) }
+        result ≡ typed.value_fits cells.now own
+        (types.type_of (rows.classes_of t) (rows.type_of t ty)) value }
 {
     match ty {
-        TypeRow::Int => Ty::Int,
-        TypeRow::Bool => Ty::Bool,
-        TypeRow::Ref { cap, name } => Ty::Ref {
-            cap,
-            class: class_number(book, name),
+        TypeRow::Int => match value {
+            Val::Int(_) => true,
+            Val::Nil | Val::Bool(_) | Val::Obj(_) => false,
+        },
+        TypeRow::Bool => match value {
+            Val::Bool(_) => true,
+            Val::Nil | Val::Int(_) | Val::Obj(_) => false,
+        },
+        TypeRow::Ref { cap, name } => match value {
+            Val::Nil => true,
+            Val::Int(_) | Val::Bool(_) => false,
+            Val::Obj(object) => object_fits(book, cells, own, cap, name, object),
         },
     }
 }
 
 // Whether a type that is written is `iso`.
+#[inline(always)]
 fn is_iso(ty: TypeRow) -> bool
     ensures { (t : Tables) → result ≡ headers.is_iso_written (rows.type_of t ty) }
 {
@@ -144,12 +166,13 @@ fn is_iso(ty: TypeRow) -> bool
 }
 
 /// Whether there are as many values as fields among members, and each meets its type.
+#[inline(always)]
 pub(crate) fn fields_fit(
     book: &Book,
     cells: &[CargoCell],
     own: Label,
     these: &[u32],
-    values: &Vals,
+    values: &Fields,
 ) -> bool
     requires { All (λ k. k < length book.now.program.members) these.now }
     ensures { let t = book.now.program in
@@ -164,7 +187,7 @@ pub(crate) fn fields_fit(
                 let Some(value) = values.get(at) else {
                     return false;
                 };
-                if !value_fits(cells, own, type_of(book, ty), value) {
+                if !value_fits(book, cells, own, ty, value) {
                     return false;
                 }
                 at += 1;
@@ -177,12 +200,13 @@ pub(crate) fn fields_fit(
 
 /// Whether values may be the elements of an array: no more than there may be, and each of their
 /// type, which isn't `iso`.
+#[inline(never)]
 pub(crate) fn elements_fit(
     book: &Book,
     cells: &[CargoCell],
     own: Label,
     element: TypeRow,
-    values: &Vals,
+    values: &[Val],
 ) -> bool
     requires { IsTypeIn book.now.program element }
     ensures { let t = book.now.program in let written = rows.type_of t element in
@@ -196,12 +220,8 @@ pub(crate) fn elements_fit(
     if values.len() > ARRAY_SIZE as usize {
         return false;
     }
-    let ty = type_of(book, element);
-    for k in 0..values.len() {
-        let Some(value) = values.get(k) else {
-            return false;
-        };
-        if !value_fits(cells, own, ty, value) {
+    for value in values {
+        if !value_fits(book, cells, own, element, *value) {
             return false;
         }
     }

@@ -13,6 +13,7 @@ use rg_names::{Book, Classes};
 use rg_tree::{ClassRow, Program};
 
 // Whether a label is that of a window's temporaries.
+#[inline(always)]
 fn is_temp(label: Label) -> bool
     ensures { result ≡ typed.is_temp label }
 {
@@ -23,6 +24,7 @@ fn is_temp(label: Label) -> bool
 }
 
 // Whether the values of an object are those of an object of a class.
+#[inline(always)]
 fn values_fit(book: &Book, cells: &[CargoCell], class: ClassRow, cell: &CargoCell) -> bool
     requires { IsClassIn book.now.program class }
     ensures { let t = book.now.program in let c = rows.class_of t class in
@@ -37,11 +39,12 @@ fn values_fit(book: &Book, cells: &[CargoCell], class: ClassRow, cell: &CargoCel
             book.members_of(class),
             &cell.fields,
         ),
-        Some(element) => elements_fit(book, cells, cell.label, element, &cell.fields),
+        Some(element) => elements_fit(book, cells, cell.label, element, cell.fields.as_slice()),
     }
 }
 
 // Whether an object fits a program.
+#[inline(always)]
 fn cell_fits(book: &Book, cells: &[CargoCell], cell: &CargoCell) -> bool
     ensures { result ≡ typed.cell_fits (rows.classes_of book.now.program) cells.now cell.now }
 {
@@ -60,6 +63,7 @@ fn cell_fits(book: &Book, cells: &[CargoCell], cell: &CargoCell) -> bool
 
 /// Whether a content fits a program: `TypedCargo`. Each value is looked at once, and takes no
 /// memory.
+#[inline(never)]
 pub fn is_typed(cargo: &Cargo, program: &Program, classes: &Classes) -> bool
     requires { IsTableOf program.now classes.now }
     ensures { result ≡ typed.is_typed (rows.program_of program.now).classes cargo.now }

@@ -1,9 +1,10 @@
-use Rattle.std.proofs.Common.{sym, ap, ◌∙◌, ◌&&◌, Bool, length}
+use Rattle.std.proofs.Common.{sym, ap, ◌∙◌, ◌&&◌, Bool, length, get_or}
 use Rattle.std.specs.Prelude.{not, nat_le}
-use Rattle.std.specs.List.{list_all}
+use Rattle.std.proofs.lemmas.Option.{slice_get-get_or}
+use Rattle.rg_base.specs.declared.value.Val.TheVariants.{Nil}
 use Rattle.rg_base.specs.declared.limits.TheConstants.{ARRAY_SIZE}
-use Rattle.rg_base.specs.declared.ty.Ty.{Ty}
-use Rattle.rg_tree.specs.Rows.RowTrees.{type_of}
+use Rattle.rg_tree.specs.Rows.RowTrees as rows
+use Rattle.rg_rules.specs.Types.{type_of}
 use Rattle.rg_rules.specs.Headers.{is_iso_written}
 use Rattle.rg_typed.specs.Typed.{value_fits}
 use Rattle.rg_typed.proofs.OneByOne.{all-next, all-stops, and_false}
@@ -11,16 +12,23 @@ use Rattle.rg_typed.proofs.fields.elements_fit.Goals as goal
 
 pub returns-then-not-value_fits : goal.returns-then-not-value_fits
 returns-then-not-value_fits c =
+    let t = c.args.book.now.program in
     let values = c.args.values.now in
-    let fits : Ty → Bool = λ y. list_all (value_fits c.args.cells.now c.args.own y) values in
-    let stops = sym c.loop-k.invariant
-    ∙ all-stops (value_fits c.args.cells.now c.args.own c.type_of-ty.result) values c.loop-k.k c.in-Some.value (sym c.in-Some.ensures)
-    (sym c.if-not-value_fits.ensures) in
-    let shared = not (is_iso_written (type_of c.args.book.now.program c.args.element)) in
+    let k = c.loop-value.value-index in
+    let at = slice_get-get_or values k Nil c.loop-value-test.true in
+    let ty = type_of (rows.classes_of t) (rows.type_of t c.args.element) in
+    let stops = sym c.loop-value.invariant
+    ∙ all-stops (value_fits c.args.cells.now c.args.own ty) values k (get_or values k Nil) at (sym c.if-not-value_fits.ensures) in
+    let shared = not (is_iso_written (rows.type_of t c.args.element)) in
     let few = nat_le (length values) ARRAY_SIZE in
-    sym (ap (λ (z : Bool). shared && few && z) (ap fits (sym c.type_of-ty.ensures) ∙ stops) ∙ and_false shared few)
+    sym (ap (λ (z : Bool). shared && few && z) stops ∙ and_false shared few)
 
-pub loop-k-preserved : goal.loop-k-preserved
-loop-k-preserved c =
-    sym (all-next (value_fits c.args.cells.now c.args.own c.type_of-ty.result) c.args.values.now c.loop-k.k c.in-Some.value
-    (sym c.in-Some.ensures) (sym c.if-not-value_fits.ensures)) ∙ c.loop-k.invariant
+pub loop-value-preserved : goal.loop-value-preserved
+loop-value-preserved c =
+    let t = c.args.book.now.program in
+    let values = c.args.values.now in
+    let k = c.loop-value.value-index in
+    let at = slice_get-get_or values k Nil c.loop-value-test.true in
+    let ty = type_of (rows.classes_of t) (rows.type_of t c.args.element) in
+    sym (all-next (value_fits c.args.cells.now c.args.own ty) values k (get_or values k Nil) at (sym c.if-not-value_fits.ensures))
+    ∙ c.loop-value.invariant

@@ -1,8 +1,6 @@
-use Rattle.std.proofs.Common.{sym, ap, ◌∙◌, arith}
+use Rattle.std.proofs.Common.{sym, ◌∙◌, arith}
 use Rattle.std.proofs.lemmas.Option.{slice_get_within}
-use Rattle.rg_base.specs.declared.ty.Ty.{Ty}
 use Rattle.rg_tree.specs.Rows.RowTrees.{classes_of}
-use Rattle.rg_typed.specs.Typed.{value_fits}
 use Rattle.rg_typed.proofs.OneByOne.{value-missing, value-unfit, value-fit, method-passed, all-passed}
 use Rattle.rg_typed.proofs.fields.fields_fit.Goals.{in-Field+in-Some+else-not-value_fits, in-Method}
 use Rattle.rg_typed.proofs.fields.fields_fit.Goals as goal
@@ -16,7 +14,7 @@ returns-in_default c =
 pub returns-then-not-value_fits : goal.returns-then-not-value_fits
 returns-then-not-value_fits c =
     let t = c.args.book.now.program in
-    let fails = ap (λ (y : Ty). value_fits c.args.cells.now c.args.own y c.in-Some.value) (sym c.type_of.ensures) ∙ sym c.if-not-value_fits.ensures in
+    let fails = sym c.if-not-value_fits.ensures in
     sym (value-unfit t (classes_of t) c.args.cells.now c.args.own c.args.these.now c.loop-k.k-index _ c.loop-k-test.true c.args.values.now
     c.loop-k.at _ c.in-Some.value c.in-Field.ensures.tree (sym c.in-Some.ensures) fails) ∙ c.loop-k.invariant.rest
 
@@ -30,8 +28,7 @@ loop-k-preserved c =
     let values = c.args.values.now in
     elim c.match-member.branch [
       | in-Field+in-Some+else-not-value_fits w ↦
-          let holds = ap (λ (y : Ty). value_fits c.args.cells.now c.args.own y w.in-Some.value) (sym w.type_of.ensures)
-          ∙ sym w.if-not-value_fits.ensures in
+          let holds = sym w.if-not-value_fits.ensures in
           record {
             rest = rw w.at-is
                 (sym (value-fit t (classes_of t) c.args.cells.now c.args.own c.args.these.now c.loop-k.k-index _ c.loop-k-test.true values
