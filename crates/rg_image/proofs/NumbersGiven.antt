@@ -22,15 +22,6 @@ pub in-stops : (fields : List Val) (k last : ℕ) (v : Val) → slice_get fields
 in-stops fields k last v there e =
     ap (named_in (suc last)) (drop-here fields k v there) ∙ ap (λ o. option_and_then (λ m. named_in m (drop (k + 1) fields)) o) e
 
--- an object that comes before it was named
-pub from-early : (cells : List CargoCell) (k last : ℕ) (c : CargoCell) → slice_get cells k ≡ Some c → last < k
-    → named_from k (suc last) (drop k cells) ≡ None
-from-early cells k last c there lt =
-    let rest = drop (k + 1) cells in
-    let not_less : nat_lt k (suc last) ≡ false = le-ltb k (suc last) (omega (arith, lt)) in
-    ap (named_from k (suc last)) (drop-here cells k c there)
-    ∙ ap (λ b. if b then option_and_then (λ m. named_from (suc k) m rest) (named_in (suc last) c.fields) else None) not_less
-
 -- region 0 is numbered from the start, where the first object lies in it
 first_region : (l : Label) → is_in 0 (Some l) ≡ true → region_named 1 l ≡ region_named 0 l
 first_region (Region r) e = subst (λ (z : ℕ). named 1 z ≡ named 0 z) (sym (eqb-true r 0 e)) refl
