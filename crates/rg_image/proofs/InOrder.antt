@@ -1,12 +1,14 @@
 -- One pass over the objects is each of its tests.
-use Rattle.std.proofs.Common.{◌≡◌, ℕ, suc, ◌+◌, Bool as Truth, true, false, if◌then◌else◌, ◌&&◌, List, [], ◌∷◌, drop, Option, Some, None, slice_get}
-use Rattle.std.proofs.Common.{option_and_then, refl, sym, ap, ◌∙◌}
+use Rattle.std.proofs.Common.{◌≡◌, ℕ, suc, ◌+◌, ◌≤◌, length, Bool as Truth, true, false, if◌then◌else◌, ◌&&◌, List, [], ◌∷◌, drop, Option, Some, None, slice_get}
+use Rattle.std.proofs.Common.{option_and_then, refl, sym, ap, ◌∙◌, arith}
 use Rattle.std.specs.Prelude.{nat_lt, nat_eq}
 use Rattle.std.specs.List.{list_all}
+use Rattle.std.proofs.lemmas.List.{drop_all}
 use Rattle.rg_base.proofs.Callers.Lists.{drop-here}
 use Rattle.rg_cown.specs.declared.cargo.CargoCell.{CargoCell}
-use Rattle.rg_cown.specs.Cargo.{named_in, named_from, region_named, regions_named, frozen_fits, comes_to}
+use Rattle.rg_cown.specs.Cargo.{named_in, named_from, region_named, regions_named, frozen_fits, comes_to, is_in, label_of}
 use Rattle.rg_typed.proofs.OneByOne.{and_false}
+use Rattle.rg_image.proofs.NumbersGiven.{regions-start}
 use Rattle.rg_image.specs.Inner.Order.{pass, passes, come_to}
 
 -- one object more
@@ -15,6 +17,10 @@ pub pass-next : (cells : List CargoCell) (k n m a b : ℕ) (c : CargoCell) → s
 pass-next cells k n m a b c there e =
     ap (passes cells k n m) (drop-here cells k c there)
     ∙ ap (λ o. option_and_then (λ (p : ℕ × ℕ). passes cells (suc k) p.0 p.1 (drop (k + 1) cells)) o) e
+    ∙ ap (λ (j : ℕ). passes cells j a b (drop (k + 1) cells)) on
+  where
+    on : suc k ≡ k + 1
+    on = omega arith
 
 -- one that isn't passed
 pub pass-stops : (cells : List CargoCell) (k n m : ℕ) (c : CargoCell) → slice_get cells k ≡ Some c → pass cells k n m c ≡ None
@@ -51,7 +57,7 @@ module _ (o r : ℕ) where
   one true (Some a) (Some b) false f g rest go h = sym (and_false (comes_to o (f a)) (comes_to r (g b)))
   one true (Some a) (Some b) true f g rest go h = h a b
 
-  pub passes-are : (cells : List CargoCell) (k n m : ℕ) (cs : List CargoCell)
+  passes-are : (cells : List CargoCell) (k n m : ℕ) (cs : List CargoCell)
       → come_to o r (passes cells k n m cs)
       ≡ (comes_to o (named_from k n cs) && comes_to r (regions_named m cs)
       && list_all (λ (x : CargoCell). frozen_fits cells x.label x.fields) cs)
@@ -60,3 +66,17 @@ module _ (o r : ℕ) where
       one (nat_lt k n) (named_in n c.fields) (region_named m c.label) (frozen_fits cells c.label c.fields)
       (λ a. named_from (suc k) a cs) (λ b. regions_named b cs) (list_all (λ (x : CargoCell). frozen_fits cells x.label x.fields) cs)
       (λ a b. passes cells (suc k) a b cs) (λ a b. passes-are cells (suc k) a b cs)
+
+-- behind the last object
+pub none-left : (cells : List CargoCell) (k n m : ℕ) → length cells ≤ k → passes cells k n m (drop k cells) ≡ Some (n, m)
+none-left cells k n m past = ap (passes cells k n m) (drop_all k cells past)
+
+-- the tests of all objects, where the first one is in region 0
+pub all-are : (cells : List CargoCell) (r : ℕ) → is_in 0 (label_of cells 0) ≡ true
+    → come_to (length cells) r (passes cells 0 1 1 cells)
+    ≡ (comes_to (length cells) (named_from 0 1 cells) && comes_to r (regions_named 0 cells)
+    && list_all (λ (x : CargoCell). frozen_fits cells x.label x.fields) cells)
+all-are cells r e =
+    passes-are (length cells) r cells 0 1 1 cells
+    ∙ ap (λ (o : Option ℕ). comes_to (length cells) (named_from 0 1 cells) && comes_to r o
+    && list_all (λ (x : CargoCell). frozen_fits cells x.label x.fields) cells) (regions-start cells e)
