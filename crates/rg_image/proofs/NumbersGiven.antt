@@ -1,14 +1,13 @@
 -- Numbers that are given one behind the other, where the last one that was given is kept.
-use Rattle.std.proofs.Common.{◌≡◌, ℕ, suc, ◌+◌, ◌<◌, true, false, if◌then◌else◌, List, [], ◌∷◌, drop}
-use Rattle.std.proofs.Common.{slice_get, Some, None, option_and_then, refl, sym, ap, subst, ◌∙◌, arith}
-use Rattle.std.specs.Prelude.{nat_lt}
-use Rattle.std.proofs.lemmas.Bool.{le-ltb, eqb-true}
+use Rattle.std.proofs.Common.{◌≡◌, ℕ, suc, ◌+◌, true, List, [], ◌∷◌, drop}
+use Rattle.std.proofs.Common.{slice_get, Some, None, option_and_then, refl, sym, ap, subst, ◌∙◌}
+use Rattle.std.proofs.lemmas.Bool.{eqb-true}
 use Rattle.rg_base.proofs.Callers.Lists.{drop-here}
 use Rattle.rg_base.specs.declared.object.Label.{Label}
 use Rattle.rg_base.specs.declared.object.Label.TheVariants.{Region, Temp, Frozen}
 use Rattle.rg_base.specs.declared.value.Val.{Val}
 use Rattle.rg_cown.specs.declared.cargo.CargoCell.{CargoCell}
-use Rattle.rg_cown.specs.Cargo.{label_of, is_in, named, named_by, named_in, named_from, region_named, regions_named}
+use Rattle.rg_cown.specs.Cargo.{label_of, is_in, named, named_by, named_in, region_named, regions_named}
 
 -- one value more
 pub in-next : (fields : List Val) (k last next : ℕ) (v : Val) → slice_get fields k ≡ Some v → named_by (suc last) v ≡ Some (suc next)

@@ -1,4 +1,4 @@
-use Rattle.std.proofs.Common.{◌≡◌, ◌∙◌, ◌&&◌, Bool, true, suc, sym, ap, length, Some, slice_get}
+use Rattle.std.proofs.Common.{◌∙◌, ◌&&◌, Bool, suc, sym, ap, length, Some}
 use Rattle.std.specs.Bool.{◌==◌}
 use Rattle.std.proofs.lemmas.Option.{slice_get-get_or}
 use Rattle.rg_image.specs.Inner.Order.{come_to}
