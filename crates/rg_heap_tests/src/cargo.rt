@@ -7,9 +7,9 @@ ghost use Rattle.rg_regions.specs.Grove.{Grove};
 ghost use Rattle.rg_cown.specs.Cargo.{SoundCargo};
 
 use crate::release::add_top;
-use rg_base::{Label, Manager, Memory, Val, Vals, Word};
+use rg_base::{Label, Manager, Memory, Val, Word};
 use rg_cells::Cells;
-use rg_cown::{Cargo, CargoCell, load, unload};
+use rg_cown::{Cargo, CargoCell, Fields, load, unload};
 use rg_regions::Regions;
 use std::alloc::Global;
 
@@ -17,7 +17,7 @@ use std::alloc::Global;
 fn object(alloc: Global, label: Label) -> Result<CargoCell, Memory>
     ensures { IfOk result (λ c. c ≡ record { class = 3; label = label; fields = Obj 1 ∷ [] }) }
 {
-    let mut fields = Vals::new(alloc);
+    let mut fields = Fields::new(alloc);
     fields.push(Val::Obj(1))?;
     Ok(CargoCell {
         class: 3,

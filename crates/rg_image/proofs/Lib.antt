@@ -3,6 +3,7 @@ mod Parts
 mod Whole
 mod Loops
 mod NumbersGiven
+mod InOrder
 mod Counts
 mod Ranges
 mod Examples

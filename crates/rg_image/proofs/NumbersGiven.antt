@@ -1,14 +1,13 @@
 -- Numbers that are given one behind the other, where the last one that was given is kept.
-use Rattle.std.proofs.Common.{◌≡◌, ℕ, suc, ◌+◌, ◌<◌, true, false, if◌then◌else◌, List, [], ◌∷◌, drop}
-use Rattle.std.proofs.Common.{slice_get, Some, None, option_and_then, refl, sym, ap, subst, ◌∙◌, arith}
-use Rattle.std.specs.Prelude.{nat_lt}
-use Rattle.std.proofs.lemmas.Bool.{le-ltb, eqb-true}
+use Rattle.std.proofs.Common.{◌≡◌, ℕ, suc, ◌+◌, true, List, [], ◌∷◌, drop}
+use Rattle.std.proofs.Common.{slice_get, Some, None, option_and_then, refl, sym, ap, subst, ◌∙◌}
+use Rattle.std.proofs.lemmas.Bool.{eqb-true}
 use Rattle.rg_base.proofs.Callers.Lists.{drop-here}
 use Rattle.rg_base.specs.declared.object.Label.{Label}
 use Rattle.rg_base.specs.declared.object.Label.TheVariants.{Region, Temp, Frozen}
 use Rattle.rg_base.specs.declared.value.Val.{Val}
 use Rattle.rg_cown.specs.declared.cargo.CargoCell.{CargoCell}
-use Rattle.rg_cown.specs.Cargo.{label_of, is_in, named, named_by, named_in, named_from, region_named, regions_named}
+use Rattle.rg_cown.specs.Cargo.{label_of, is_in, named, named_by, named_in, region_named, regions_named}
 
 -- one value more
 pub in-next : (fields : List Val) (k last next : ℕ) (v : Val) → slice_get fields k ≡ Some v → named_by (suc last) v ≡ Some (suc next)
@@ -21,15 +20,6 @@ pub in-stops : (fields : List Val) (k last : ℕ) (v : Val) → slice_get fields
     → named_in (suc last) (drop k fields) ≡ None
 in-stops fields k last v there e =
     ap (named_in (suc last)) (drop-here fields k v there) ∙ ap (λ o. option_and_then (λ m. named_in m (drop (k + 1) fields)) o) e
-
--- an object that comes before it was named
-pub from-early : (cells : List CargoCell) (k last : ℕ) (c : CargoCell) → slice_get cells k ≡ Some c → last < k
-    → named_from k (suc last) (drop k cells) ≡ None
-from-early cells k last c there lt =
-    let rest = drop (k + 1) cells in
-    let not_less : nat_lt k (suc last) ≡ false = le-ltb k (suc last) (omega (arith, lt)) in
-    ap (named_from k (suc last)) (drop-here cells k c there)
-    ∙ ap (λ b. if b then option_and_then (λ m. named_from (suc k) m rest) (named_in (suc last) c.fields) else None) not_less
 
 -- region 0 is numbered from the start, where the first object lies in it
 first_region : (l : Label) → is_in 0 (Some l) ≡ true → region_named 1 l ≡ region_named 0 l

@@ -2,3 +2,4 @@
 pub mod Reading
 pub mod Entries
 pub mod Ranges
+pub mod Order

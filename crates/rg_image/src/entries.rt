@@ -7,7 +7,7 @@ ghost use Rattle.rg_cown.specs.Cargo.{entries, entries_of, is_entered, label_of}
 ghost use Rattle.rg_image.specs.Inner.Entries.{Adds, enters, are_right, region_in};
 
 use crate::labels::label_of;
-use rg_base::{Label, Manager, Memory, Val, Vals};
+use rg_base::{Label, Manager, Memory, Val};
 use rg_cown::CargoCell;
 use std::alloc::Global;
 
@@ -15,6 +15,7 @@ use std::alloc::Global;
 const MANY: u8 = 2;
 
 // One entry more into a region.
+#[inline(always)]
 fn count_entry(counts: &mut Vec<u8>, region: u64)
     ensures { Adds counts.old.items counts.new.items (λ r. if region == r then 1 else 0) }
 {
@@ -29,6 +30,7 @@ fn count_entry(counts: &mut Vec<u8>, region: u64)
 }
 
 // Whether a field of an object with a label that leads into a region enters it.
+#[inline(always)]
 fn enters(own: Label, region: u64) -> bool
     ensures { result ≡ enters own region }
 {
@@ -40,6 +42,7 @@ fn enters(own: Label, region: u64) -> bool
 }
 
 // The region in which an object lies, if it is there and in one.
+#[inline(always)]
 fn region_of(cells: &[CargoCell], object: u64) -> Option<u64>
     ensures { result ≡ region_in (label_of cells.now object) }
 {
@@ -52,6 +55,7 @@ fn region_of(cells: &[CargoCell], object: u64) -> Option<u64>
 }
 
 // The entry that a value of an object with a label is, if it is one.
+#[inline(always)]
 fn count_value(cells: &[CargoCell], own: Label, value: Val, counts: &mut Vec<u8>)
     ensures { Adds counts.old.items counts.new.items
         (λ r. entries_of cells.now r own (value ∷ [])) }
@@ -68,23 +72,22 @@ fn count_value(cells: &[CargoCell], own: Label, value: Val, counts: &mut Vec<u8>
 }
 
 // The entries that the fields of an object with a label are.
-fn count_fields(cells: &[CargoCell], own: Label, fields: &Vals, counts: &mut Vec<u8>)
+#[inline(always)]
+fn count_fields(cells: &[CargoCell], own: Label, fields: &[Val], counts: &mut Vec<u8>)
     ensures { Adds counts.old.items counts.new.items (λ r. entries_of cells.now r own fields.now) }
 {
-    for k in 0..fields.len() {
-        let Some(value) = fields.get(k) else {
-            unreachable!();
-        };
-        count_value(cells, own, value, counts);
+    for value in fields {
+        count_value(cells, own, *value, counts);
     }
 }
 
 // The entries that the fields of all objects are.
+#[inline(never)]
 fn count_all(cells: &[CargoCell], counts: &mut Vec<u8>)
     ensures { Adds counts.old.items counts.new.items (λ r. entries cells.now r) }
 {
     for cell in cells {
-        count_fields(cells, cell.label, &cell.fields, counts);
+        count_fields(cells, cell.label, cell.fields.as_slice(), counts);
     }
 }
 

@@ -1,15 +1,15 @@
-//! Whether frozen objects lead to frozen ones alone (docs/architecture.md, "Images").
+//! Whether a frozen object leads to frozen ones alone (docs/architecture.md, "Images").
 
 ghost use Rattle.std.specs.Prelude.{◌≡◌};
 ghost use Rattle.std.specs.List.{list_all};
-ghost use Rattle.rg_cown.specs.declared.cargo.CargoCell.{CargoCell};
 ghost use Rattle.rg_cown.specs.Cargo as cargo;
 
 use crate::labels::{is_frozen, label_of};
-use rg_base::{Label, Val, Vals};
+use rg_base::{Label, Val};
 use rg_cown::CargoCell;
 
 // Whether a value may stand in a frozen object.
+#[inline(always)]
 fn stays_frozen(cells: &[CargoCell], value: Val) -> bool
     ensures { result ≡ cargo.stays_frozen cells.now value }
 {
@@ -20,39 +20,24 @@ fn stays_frozen(cells: &[CargoCell], value: Val) -> bool
 }
 
 // Whether values may stand in a frozen object.
-fn all_stay_frozen(cells: &[CargoCell], fields: &Vals) -> bool
+fn all_stay_frozen(cells: &[CargoCell], fields: &[Val]) -> bool
     ensures { result ≡ list_all (cargo.stays_frozen cells.now) fields.now }
 {
-    for k in 0..fields.len() {
-        let Some(value) = fields.get(k) else {
-            unreachable!();
-        };
-        if !stays_frozen(cells, value) {
+    for value in fields {
+        if !stays_frozen(cells, *value) {
             return false;
         }
     }
     true
 }
 
-// Whether the fields of an object may lead where they do, if it is frozen.
-fn frozen_fits(cells: &[CargoCell], own: Label, fields: &Vals) -> bool
+/// Whether the fields of an object may lead where they do, if it is frozen.
+#[inline(always)]
+pub(crate) fn frozen_fits(cells: &[CargoCell], own: Label, fields: &[Val]) -> bool
     ensures { result ≡ cargo.frozen_fits cells.now own fields.now }
 {
     match own {
         Label::Region(_) | Label::Temp(_) => true,
         Label::Frozen => all_stay_frozen(cells, fields),
     }
-}
-
-/// Whether each frozen object leads to frozen ones alone.
-pub(crate) fn frozen_stay(cells: &[CargoCell]) -> bool
-    ensures { result
-        ≡ list_all (λ (x : CargoCell). cargo.frozen_fits cells.now x.label x.fields) cells.now }
-{
-    for cell in cells {
-        if !frozen_fits(cells, cell.label, &cell.fields) {
-            return false;
-        }
-    }
-    true
 }

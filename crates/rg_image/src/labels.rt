@@ -7,6 +7,7 @@ use rg_base::Label;
 use rg_cown::CargoCell;
 
 /// What the object of a number is labelled with, if there is one.
+#[inline(always)]
 pub(crate) fn label_of(cells: &[CargoCell], object: u64) -> Option<Label>
     ensures { result ≡ cargo.label_of cells.now object }
 {
@@ -17,6 +18,7 @@ pub(crate) fn label_of(cells: &[CargoCell], object: u64) -> Option<Label>
 }
 
 /// Whether a label, if there is one, is that of a region.
+#[inline(always)]
 pub(crate) fn is_in(region: u64, label: Option<Label>) -> bool
     ensures { result ≡ cargo.is_in region label }
 {
@@ -29,6 +31,7 @@ pub(crate) fn is_in(region: u64, label: Option<Label>) -> bool
 }
 
 /// Whether a label, if there is one, is frozen.
+#[inline(always)]
 pub(crate) fn is_frozen(label: Option<Label>) -> bool
     ensures { result ≡ cargo.is_frozen label }
 {

@@ -13,6 +13,7 @@ mod images;
 mod labels;
 mod laws;
 mod numbered;
+mod order;
 mod reading;
 mod sound;
 mod writing;

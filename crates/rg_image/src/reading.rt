@@ -1,5 +1,5 @@
 //! A content that is read from bytes, part by part, each with the bytes behind it
-//! (docs/architecture.md, "Images"). No count takes memory: a part takes it when it is there.
+//! (docs/architecture.md, "Images"). No count takes more memory than the bytes could fill.
 
 ghost use Rattle.std.specs.Prelude.{◌≡◌, [], IfOk};
 ghost use Rattle.rg_spell.specs.Reading.{Finds, Gives, manager_at, many_at};
@@ -9,13 +9,17 @@ ghost use Rattle.rg_image.specs.Inner.Reading.{region_at, label_behind, label_at
 ghost use Rattle.rg_image.specs.Inner.Reading.{cargo_at, held_at, content_behind, content_at};
 ghost use Rattle.rg_image.specs.Inner.Reading.{magic_at, image_at};
 
-use rg_base::{Label, Val, Vals};
-use rg_cown::{Cargo, CargoCell};
+use rg_base::{Label, Val};
+use rg_cown::{Cargo, CargoCell, Fields};
 use rg_spell::{Refusal, take_bool, take_byte, take_i64, take_manager, take_u32, take_u64};
 use std::alloc::Global;
 
+// the bytes of an object without fields that is frozen: its class, its label and a count
+const LEAST_CELL: usize = 13;
+
 // A count of parts, each of at least one byte.
 #[tactic(auto, unfolding(crate::specs::Inner::Reading::count_at))]
+#[inline(always)]
 fn take_count(bytes: &[u8]) -> Option<(u64, &[u8])>
     ensures { Finds (λ x. (x.0, x.1.now)) result (count_at bytes.now) }
 {
@@ -30,6 +34,7 @@ fn take_count(bytes: &[u8]) -> Option<(u64, &[u8])>
 
 // A number, behind the byte that says so.
 #[tactic(auto, unfolding(crate::specs::Inner::Reading::int_at))]
+#[inline(always)]
 fn take_int(bytes: &[u8]) -> Option<(Val, &[u8])>
     ensures { Finds (λ x. (x.0, x.1.now)) result (int_at bytes.now) }
 {
@@ -41,6 +46,7 @@ fn take_int(bytes: &[u8]) -> Option<(Val, &[u8])>
 
 // A truth value, behind the byte that says so.
 #[tactic(auto, unfolding(crate::specs::Inner::Reading::truth_at))]
+#[inline(always)]
 fn take_truth(bytes: &[u8]) -> Option<(Val, &[u8])>
     ensures { Finds (λ x. (x.0, x.1.now)) result (truth_at bytes.now) }
 {
@@ -52,6 +58,7 @@ fn take_truth(bytes: &[u8]) -> Option<(Val, &[u8])>
 
 // A reference, behind the byte that says so.
 #[tactic(auto, unfolding(crate::specs::Inner::Reading::object_at))]
+#[inline(always)]
 fn take_object(bytes: &[u8]) -> Option<(Val, &[u8])>
     ensures { Finds (λ x. (x.0, x.1.now)) result (object_at bytes.now) }
 {
@@ -63,6 +70,7 @@ fn take_object(bytes: &[u8]) -> Option<(Val, &[u8])>
 
 // A value, behind its first byte.
 #[tactic(auto, unfolding(crate::specs::Inner::Reading::value_behind))]
+#[inline(always)]
 fn take_behind(kind: u8, bytes: &[u8]) -> Option<(Val, &[u8])>
     ensures { Finds (λ x. (x.0, x.1.now)) result (value_behind kind bytes.now) }
 {
@@ -77,6 +85,7 @@ fn take_behind(kind: u8, bytes: &[u8]) -> Option<(Val, &[u8])>
 
 // A value.
 #[tactic(auto, unfolding(crate::specs::Inner::Reading::value_at))]
+#[inline(always)]
 fn take_value(bytes: &[u8]) -> Option<(Val, &[u8])>
     ensures { Finds (λ x. (x.0, x.1.now)) result (value_at bytes.now) }
 {
@@ -88,6 +97,7 @@ fn take_value(bytes: &[u8]) -> Option<(Val, &[u8])>
 
 // The label of an object of a region, behind the byte that says so.
 #[tactic(auto, unfolding(crate::specs::Inner::Reading::region_at))]
+#[inline(always)]
 fn take_region(bytes: &[u8]) -> Option<(Label, &[u8])>
     ensures { Finds (λ x. (x.0, x.1.now)) result (region_at bytes.now) }
 {
@@ -99,6 +109,7 @@ fn take_region(bytes: &[u8]) -> Option<(Label, &[u8])>
 
 // A label, behind its first byte.
 #[tactic(auto, unfolding(crate::specs::Inner::Reading::label_behind))]
+#[inline(always)]
 fn take_label_behind(kind: u8, bytes: &[u8]) -> Option<(Label, &[u8])>
     ensures { Finds (λ x. (x.0, x.1.now)) result (label_behind kind bytes.now) }
 {
@@ -111,6 +122,7 @@ fn take_label_behind(kind: u8, bytes: &[u8]) -> Option<(Label, &[u8])>
 
 // A label.
 #[tactic(auto, unfolding(crate::specs::Inner::Reading::label_at))]
+#[inline(always)]
 fn take_label(bytes: &[u8]) -> Option<(Label, &[u8])>
     ensures { Finds (λ x. (x.0, x.1.now)) result (label_at bytes.now) }
 {
@@ -121,10 +133,11 @@ fn take_label(bytes: &[u8]) -> Option<(Label, &[u8])>
 }
 
 // So many values.
-fn take_many_values(alloc: Global, count: u64, bytes: &[u8]) -> Result<(Vals, &[u8]), Refusal>
+#[inline(always)]
+fn take_many_values(alloc: Global, count: u64, bytes: &[u8]) -> Result<(Fields, &[u8]), Refusal>
     ensures { Gives (λ x. (x.0, x.1.now)) result (many_at value_at count bytes.now) }
 {
-    let mut values = Vals::new(alloc);
+    let mut values = Fields::new(alloc);
     let mut rest = bytes;
     for _ in 0..count {
         let Some((value, after)) = take_value(rest) else {
@@ -140,7 +153,8 @@ fn take_many_values(alloc: Global, count: u64, bytes: &[u8]) -> Result<(Vals, &[
 
 // A count of values, and the values.
 #[tactic(auto, unfolding(crate::specs::Inner::Reading::counted_at))]
-fn take_values(alloc: Global, bytes: &[u8]) -> Result<(Vals, &[u8]), Refusal>
+#[inline(always)]
+fn take_values(alloc: Global, bytes: &[u8]) -> Result<(Fields, &[u8]), Refusal>
     ensures { Gives (λ x. (x.0, x.1.now)) result (counted_at value_at bytes.now) }
 {
     let Some((count, rest)) = take_count(bytes) else {
@@ -151,6 +165,7 @@ fn take_values(alloc: Global, bytes: &[u8]) -> Result<(Vals, &[u8]), Refusal>
 
 // An object.
 #[tactic(auto, unfolding(crate::specs::Inner::Reading::cell_at))]
+#[inline(always)]
 fn take_cell(alloc: Global, bytes: &[u8]) -> Result<(CargoCell, &[u8]), Refusal>
     ensures { Gives (λ x. (x.0, x.1.now)) result (cell_at bytes.now) }
 {
@@ -203,7 +218,17 @@ fn take_managers(alloc: Global, bytes: &[u8]) -> Result<(Cargo, &[u8]), Refusal>
     take_many_managers(alloc, count, rest)
 }
 
+// For how many objects room is made: for so many, but for no more than may be in these bytes.
+fn room_for(count: u64, bytes: usize) -> usize {
+    let most = bytes / LEAST_CELL;
+    if count < most as u64 {
+        return count as usize;
+    }
+    most
+}
+
 // So many objects, beside managers.
+#[inline(never)]
 fn take_many_cells(
     alloc: Global,
     managers: Cargo,
@@ -215,6 +240,9 @@ fn take_many_cells(
     ensures managers { IfOk result (λ x. x.0.managers ≡ managers.managers) }
 {
     let mut cargo = managers;
+    let Ok(()) = cargo.reserve_cells(room_for(count, bytes.len())) else {
+        return Err(Refusal::Memory);
+    };
     let mut rest = bytes;
     for _ in 0..count {
         let (cell, after) = match take_cell(alloc, rest) {

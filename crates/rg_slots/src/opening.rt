@@ -11,8 +11,8 @@ ghost use Rattle.rg_sched.specs.Settings.{new_content, start_contents};
 use crate::fields::opening_value;
 use crate::slot::Slot;
 use crate::slots::Slots;
-use rg_base::{Label, Manager, Memory, Vals};
-use rg_cown::{Cargo, CargoCell};
+use rg_base::{Label, Manager, Memory};
+use rg_cown::{Cargo, CargoCell, Fields};
 use rg_names::Book;
 use rg_plan::{Plan, Start};
 use rg_tree::MemberRow;
@@ -73,12 +73,12 @@ fn new_content(
 }
 
 // The values with which the fields of a class start.
-fn opening_fields(alloc: Global, book: &Book<'_>, class: u32) -> Result<Vals, Memory>
+fn opening_fields(alloc: Global, book: &Book<'_>, class: u32) -> Result<Fields, Memory>
     requires { class < length (classes_of book.now.program) }
     ensures { IfOk result (λ vs. vs ≡ map (λ f. rules.opening_value f.ty)
         (fields_of (classes_of book.now.program) class)) }
 {
-    let mut values = Vals::new(alloc);
+    let mut values = Fields::new(alloc);
     let members = book.members_of(book.class(class));
     for k in members {
         match book.member(*k) {

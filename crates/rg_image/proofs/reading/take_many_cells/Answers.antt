@@ -13,8 +13,8 @@ pub loop-preserved : goal.loop-preserved
 loop-preserved c =
     let total = many_at cell_at c.args.count c.args.bytes.now in
     rw c.in-Ok-add_cell.ensures.ok (record {
-      read = goes_on cell_at c.loop.cargo.cells c.args.count c.loop.counter c.loop.rest.now c.in-Ok.pair.0 c.in-Ok.pair.1.now total
-          c.loop-test.true c.in-Ok.ensures c.loop.invariant.read;
+      read = goes_on cell_at c.loop.cargo.cells c.args.count c.loop.counter c.loop.rest.now c.in-Ok-take_cell.pair.0 c.in-Ok-take_cell.pair.1.now total
+          c.loop-test.true c.in-Ok-take_cell.ensures c.loop.invariant.read;
       managers = c.loop.invariant.managers;
     })
 
