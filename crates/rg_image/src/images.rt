@@ -42,7 +42,7 @@ pub fn encode(alloc: Global, content: Option<&Cargo>) -> Result<ByteList, Memory
 }
 
 /// The content whose image the bytes are, for a program with its class table, or `E95` at line 0.
-/// Each byte is looked at once, and a count takes no more memory than the bytes could fill.
+/// Each byte is looked at once, and a count takes no memory where the bytes are too few for it.
 pub fn decode(
     alloc: Global,
     bytes: &[u8],

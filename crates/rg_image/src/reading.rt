@@ -1,5 +1,5 @@
 //! A content that is read from bytes, part by part, each with the bytes behind it
-//! (docs/architecture.md, "Images"). No count takes more memory than the bytes could fill.
+//! (docs/architecture.md, "Images"). No count takes memory for more than the bytes can hold.
 
 ghost use Rattle.std.specs.Prelude.{◌≡◌, [], IfOk};
 ghost use Rattle.rg_spell.specs.Reading.{Finds, Gives, manager_at, many_at};
@@ -218,13 +218,13 @@ fn take_managers(alloc: Global, bytes: &[u8]) -> Result<(Cargo, &[u8]), Refusal>
     take_many_managers(alloc, count, rest)
 }
 
-// For how many objects room is made: for so many, but for no more than may be in these bytes.
+// For how many objects room is made: for so many, and for none where these bytes are too few for
+// so many, which is found where they end.
 fn room_for(count: u64, bytes: usize) -> usize {
-    let most = bytes / LEAST_CELL;
-    if count < most as u64 {
-        return count as usize;
+    if count > (bytes / LEAST_CELL) as u64 {
+        return 0;
     }
-    most
+    count as usize
 }
 
 // So many objects, beside managers.
