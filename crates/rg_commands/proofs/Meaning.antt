@@ -28,7 +28,7 @@ use Rattle.rg_cown.specs.Cargo.{CargoList}
 use Rattle.rg_plan.specs.Plans.{PlanOf}
 use Rattle.rg_sched.specs.Contents.{Content, Away, Empty, Held}
 use Rattle.rg_loading.specs.Laws.{LoadsComeToOne}
-use Rattle.rg_schedule.specs.Schedules.{Schedule as Said, Whole, BadAt, TooLong, schedule_of}
+use Rattle.rg_when.specs.Scheduled.{Said, Whole, BadAt, TooLong, schedule_of}
 use Rattle.rg_words.specs.declared.status.Status.TheVariants as status
 use Rattle.rg_commands.specs.Laws.{OneAnswer}
 use Rattle.rg_commands.proofs.Settled.{no_lie}

@@ -19,7 +19,7 @@ use Rattle.rg_words.specs.declared.status.Status.TheVariants as status
 use Rattle.rg_words.specs.Commands.{Command, run, plain, fmt, check, code, pack, bulk, exec, when, origin_of, keep_of}
 use Rattle.rg_words.specs.Answers.{Answer, refused}
 use Rattle.rg_sources.specs.Sources.{Sources, Meaning, too_long, faulty, spelt, planned, MeansFrom}
-use Rattle.rg_when.specs.Scheduled.{schedule_answer}
+pub use Rattle.rg_when.specs.Scheduled.{schedule_answer, schedule_of, Answered}
 
 -- the status of a run that stands so after all its steps
 abbrev pub status_of : Ending → Status

@@ -26,7 +26,7 @@ use Rattle.rg_words.specs.Commands.{Command, run, plain, fmt, check, code, pack,
 use Rattle.rg_words.specs.Commands.{origin_of}
 use Rattle.rg_words.specs.Commands.{every_of, runs_on, is_slide, keep_of}
 use Rattle.rg_words.specs.Answers.{HasInput, ForInput}
-use Rattle.rg_when.specs.Scheduled.{SettlesSchedule}
+pub use Rattle.rg_when.specs.Scheduled.{SettlesSchedule}
 use Rattle.rg_sources.specs.Sources.{Sources, too_long, faulty, spelt, planned, HasSource, MeansFrom, Means, Runs}
 use Rattle.rg_commands.specs.Expected.{status_of, accepted_text, listed_text, packed_text, text_after, line_behind}
 use Rattle.rg_commands.specs.CutOff.{Untouched, StandsAfter, AsksAfter, CutOffAt, CutAtInput}

@@ -12,7 +12,7 @@ use Rattle.rg_plan.specs.declared.cown.Cown.{Cown}
 use Rattle.rg_plan.specs.Plans.{PlanOf}
 use Rattle.rg_plan.specs.Rules.{plan_of}
 use Rattle.rg_contents.specs.Rest.{ImagesMayBeOwned}
-use Rattle.rg_world.specs.Worlds.{IsReadFor}
+use Rattle.rg_contents.specs.Read.{IsReadFor}
 use Rattle.rg_loading.specs.Loading.{Failing, FileComes, in_front, OneComes, no_content, FirstComes, LoadsCome}
 use Rattle.rg_loading.specs.Files.{CownsCome}
 

@@ -5,7 +5,7 @@ ghost use Rattle.rg_tree.specs.Rows.RowTrees.{program_of};
 ghost use Rattle.rg_io.specs.Content.{Rose};
 ghost use Rattle.rg_io.specs.Files.{SameFiles, BegunAre};
 ghost use Rattle.rg_plan.specs.Rules.{plan_of};
-ghost use Rattle.rg_world.specs.Worlds.{IsReadFor};
+ghost use Rattle.rg_contents.specs.Read.{IsReadFor};
 ghost use Rattle.rg_loading.specs.Files.{CownsCome, OpensFor, Brings};
 
 use crate::content::content_in;

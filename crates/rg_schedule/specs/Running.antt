@@ -4,7 +4,8 @@ use Rattle.rg_tree.specs.Tree.{Tree}
 use Rattle.rg_code.specs.Code.{Code}
 use Rattle.rg_cown.specs.Cargo.{CargoList}
 use Rattle.rg_plan.specs.Plans.{PlanOf}
-use Rattle.rg_world.specs.Worlds.{WorldIn, IsBehind}
+pub use Rattle.rg_world.specs.Worlds.{WorldIn, IsBehind}
+pub use Rattle.rg_step.specs.Pacers.{SameTuned, both}
 use Rattle.rg_schedule.specs.declared.running.Behind.{Behind}
 use Rattle.rg_schedule.specs.declared.stop.SchedStop.{SchedStop}
 use Rattle.rg_schedule.specs.declared.stop.SchedStop.TheVariants as stop

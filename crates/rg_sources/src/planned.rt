@@ -4,7 +4,7 @@ ghost use Rattle.std.specs.Prelude.{◌≡◌, ◌≤◌, ◌++◌, ◌∷◌, [
 ghost use Rattle.rg_tree.specs.Rows.RowTrees.{program_of};
 ghost use Rattle.rg_io.specs.Content.{Rose};
 ghost use Rattle.rg_io.specs.Files.{SameFiles, BegunAre};
-ghost use Rattle.rg_world.specs.Worlds.{IsReadFor};
+ghost use Rattle.rg_contents.specs.Read.{IsReadFor};
 ghost use Rattle.rg_words.specs.Commands.{with_plan};
 ghost use Rattle.rg_sources.specs.Sources.{has_kept};
 ghost use Rattle.rg_sources.specs.Brings.{BringsPlan, BringsKeeping, BringsPlanned};

@@ -26,17 +26,15 @@ use Rattle.rg_words.specs.Statuses.{is_answer, is_from_outside, is_refusal, IsBa
 use Rattle.rg_words.specs.Answers.{Answer, ForInput}
 use Rattle.rg_words.proofs.Written.{untouched-text}
 use Rattle.rg_sources.specs.Sources.{Sources, planned, too_long, faulty, spelt, MeansFrom}
-use Rattle.rg_when.specs.Scheduled.{schedule_answer, Answered, SettlesSchedule}
 use Rattle.rg_commands.specs.Expected.{status_of, accepted_text, listed_text, packed_text, text_after, line_behind, run_answer, unless_fault}
-use Rattle.rg_commands.specs.Expected.{ExpectsStatus}
+use Rattle.rg_commands.specs.Expected.{ExpectsStatus, schedule_answer, schedule_of, Answered}
 use Rattle.rg_commands.specs.CutOff.{Untouched, StandsAfter, AsksAfter, CutOffAt, CutAtInput}
-use Rattle.rg_commands.specs.Settled.{RanSchedule, RanWhole, RanBeside, RanGenerated, EndsWell, StopsRun, IsFaulted, CutOff, Settles}
+use Rattle.rg_commands.specs.Settled.{SettlesSchedule, RanSchedule, RanWhole, RanBeside, RanGenerated, EndsWell, StopsRun, IsFaulted, CutOff, Settles}
 use Rattle.rg_commands.proofs.Meaning.{plan-needed, said-refused}
 use Rattle.rg_commands.proofs.Settled.{bulk-stands}
 use Rattle.rg_top.specs.Headline.{IfAccepted, RunStands, Answers}
 use Rattle.rg_cown.specs.Cargo.{CargoList}
 use Rattle.rg_plan.specs.Plans.{PlanOf}
-use Rattle.rg_schedule.specs.Schedules.{schedule_of}
 use Rattle.rg_io.specs.Files.{Told}
 use Rattle.rg_words.specs.Commands.{is_scheduled}
 

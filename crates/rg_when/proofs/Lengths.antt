@@ -12,7 +12,7 @@ use Rattle.rg_sched.specs.Settings.{start_contents, setting_of}
 use Rattle.rg_sched.specs.Atomic.{Told, at_first, do_one, do_all}
 use Rattle.rg_sched.specs.Events.{world_after}
 use Rattle.rg_sched.specs.Laws.{OneByOne, PlansAreSettings}
-use Rattle.rg_world.specs.Worlds.{WorldIn, IsBehind}
+use Rattle.rg_schedule.specs.Running.{WorldIn, IsBehind}
 use Rattle.rg_when.specs.Scheduled.{told_behind}
 use Rattle.rg_when.proofs.Told.{told-alike}
 

@@ -13,7 +13,7 @@ use Rattle.rg_sched.specs.Events.{world_after}
 use Rattle.rg_sched.specs.Laws.{OneByOne, PlansAreSettings}
 use Rattle.rg_schedule.specs.Running.{IsCounted}
 use Rattle.rg_schedule.specs.declared.running.Behind.{Behind}
-use Rattle.rg_world.specs.Worlds.{WorldIn, IsBehind}
+use Rattle.rg_schedule.specs.Running.{WorldIn, IsBehind}
 use Rattle.rg_world_text.specs.Text.{world_text}
 use Rattle.rg_when.specs.Inner.Puts.{text_answer}
 use Rattle.rg_when.specs.Scheduled.{told_behind, text_behind, kept_of, answer_behind}

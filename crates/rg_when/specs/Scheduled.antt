@@ -10,7 +10,7 @@ use Rattle.rg_sched.specs.Contents.{Content, Away, Empty, Held}
 use Rattle.rg_sched.specs.Settings.{Setting, setting_of}
 use Rattle.rg_sched.specs.Atomic.{Told, World, atomic}
 use Rattle.rg_sched.specs.Events.{world_after}
-use Rattle.rg_schedule.specs.Schedules.{Schedule as Said, Whole, BadAt, TooLong, schedule_of}
+pub use Rattle.rg_schedule.specs.Schedules.{Schedule as Said, Whole, BadAt, TooLong, schedule_of}
 use Rattle.rg_world_text.specs.Text.{world_text}
 use Rattle.rg_words.specs.declared.status.Status.{Status}
 use Rattle.rg_words.specs.declared.status.Status.TheVariants as status

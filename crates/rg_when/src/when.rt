@@ -2,8 +2,8 @@
 
 ghost use Rattle.std.specs.Prelude.{◌<◌, length, IfSome};
 ghost use Rattle.rg_tree.specs.Rows.RowTrees.{program_of};
-ghost use Rattle.rg_world.specs.Worlds.{IsReadFor};
-ghost use Rattle.rg_step.specs.Pacers.{SameTuned, both};
+ghost use Rattle.rg_contents.specs.Read.{IsReadFor};
+ghost use Rattle.rg_schedule.specs.Running.{SameTuned, both};
 ghost use Rattle.rg_words.specs.Answers.{CausedBeside};
 ghost use Rattle.rg_when.specs.Scheduled.{SettlesSchedule};
 

@@ -19,7 +19,8 @@ use Rattle.rg_sched.specs.Settings.{Setting, setting_of}
 use Rattle.rg_sched.specs.Events.{first_world}
 use Rattle.rg_world.specs.declared.progress.Progress.{Progress}
 use Rattle.rg_world.specs.Standing.{IsProgress}
-use Rattle.rg_world.specs.Worlds.{WorldIn, Shows, IsReadFor, IsBehind}
+use Rattle.rg_contents.specs.Read.{IsReadFor}
+use Rattle.rg_world.specs.Worlds.{WorldIn, Shows, IsBehind}
 use Rattle.rg_world.specs.Inner.Steps.{waiting}
 use Rattle.rg_world.proofs.Events.{runs-length}
 

@@ -1,17 +1,16 @@
 -- What a world over machines holds, and what it shows of a schedule (docs/architecture.md, "Worlds").
-use Rattle.std.specs.Prelude.{◌≡◌, ℕ, List, length, Some, None, Ok, slice_get, slice_index, slice_index_or}
+use Rattle.std.specs.Prelude.{◌≡◌, ℕ, List, length, Some, None, slice_get, slice_index, slice_index_or}
 use Rattle.rg_tree.specs.Tree.{Tree}
 use Rattle.rg_rules.specs.Acceptance.{Accepted}
 use Rattle.rg_cown.specs.Cargo.{CargoList}
 use Rattle.rg_code.specs.Code.{Code}
 use Rattle.rg_code.specs.Lowering.{Lowers}
 use Rattle.rg_plan.specs.Plans.{PlanOf}
-use Rattle.rg_plan.specs.Rules.{plan_of}
 use Rattle.rg_sched.specs.Contents.{Content}
 use Rattle.rg_sched.specs.Settings.{setting_of}
 use Rattle.rg_sched.specs.Atomic.{World}
 use Rattle.rg_sched.specs.Events.{world_after}
-use Rattle.rg_contents.specs.Rest.{ImagesMayBeOwned}
+use Rattle.rg_contents.specs.Read.{IsReadFor}
 use Rattle.rg_world.specs.declared.progress.Progress.{Progress}
 use Rattle.rg_world.specs.Standing.{IsProgress}
 
@@ -30,13 +29,6 @@ pub record Shows (t : Tree) (code : Code) (m : WorldIn) (w : World) : Type 0 whe
       → IsProgress t code (slice_index_or w.told.runs i None) (slice_index w.turns i) p
   pub contents : m.contents ≡ w.told.contents
   pub began : m.began ≡ w.began
-
--- a plan that is read for an accepted program, and contents of its images, one for each cown, that may be owned
-pub record IsReadFor (t : Tree) (p : PlanOf) (images : List CargoList) : Type 0 where
-  pub bytes : List ℕ
-  pub read : plan_of t bytes ≡ Ok p
-  pub many : length images ≡ length p.cowns
-  pub owned : ImagesMayBeOwned t p.cowns images
 
 -- it is the world of a plan behind a schedule, over the machines of a program that has this code
 pub record IsBehind (t : Tree) (code : Code) (p : PlanOf) (images : List CargoList) (schedule : List ℕ) (m : WorldIn) : Type 0 where

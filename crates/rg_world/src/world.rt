@@ -10,7 +10,8 @@ ghost use Rattle.rg_plan.specs.Plans.{Turn, in_front_of};
 ghost use Rattle.rg_slots.specs.Slots.{content_in};
 ghost use Rattle.rg_step.specs.Pacers.{SameTuned, both};
 ghost use Rattle.rg_world.specs.Standing.{phase_in, stepper_in};
-ghost use Rattle.rg_world.specs.Worlds.{IsBehind, IsReadFor};
+ghost use Rattle.rg_contents.specs.Read.{IsReadFor};
+ghost use Rattle.rg_world.specs.Worlds.{IsBehind};
 ghost use Rattle.rg_world.specs.Inner.Steps.{all_ended_in, is_ended, is_waiting, is_running};
 ghost use Rattle.rg_world.specs.Inner.Steps.{waiting};
 
