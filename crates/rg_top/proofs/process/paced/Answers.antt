@@ -15,7 +15,7 @@ returns-clause-expected g c =
 pub returns-clause-notes : goal.returns-clause-notes
 returns-clause-notes g c =
     let words = texts c.args.words.now in
-    let F : Type 0 = Rose c.new-5.result c.reggio.new.files in
+    let F : Type 0 = Rose c.new-5.result.faults c.reggio.new.files.faults in
     let I : Type 0 = Rose c.new-6.result c.reggio.new.input in (
       c.reggio.new.machine,
       took-may (MayTell None None words F I) (MayTell None None words (Unit {0}) (Unit {0})) (may-any None None words F I)
