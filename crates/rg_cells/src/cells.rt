@@ -179,6 +179,15 @@ impl Cells {
         self.places.put_field(slot, k, w);
     }
 
+    /// A field of a held cell that stands beside the cells, if it is there.
+    #[inline(always)]
+    pub fn beside(&self, slot: usize, index: usize) -> Option<Word>
+        requires { IsHeld self.now.heap slot }
+        ensures { IfSome result (λ w. field_at self.now.heap slot index ≡ Some w) }
+    {
+        self.places.element_beside(slot, index)
+    }
+
     /// Writes a field of a held cell where that is quick: there are so many and it led nowhere.
     /// Answers whether it did.
     #[inline(always)]

@@ -165,6 +165,19 @@ impl Places {
         self.beside[at].fields.element(index)
     }
 
+    /// A field of a held cell that stands beside the cells, if it is there.
+    #[inline(always)]
+    pub fn element_beside(&self, slot: usize, index: usize) -> Option<Word>
+        requires { IsHeld self.now.heap slot }
+        ensures { IfSome result (λ w. field_at self.now.heap slot index ≡ Some w) }
+    {
+        let cell = &self.cells[slot];
+        let Some(at) = cell.beside() else {
+            return None;
+        };
+        self.beside[at].fields.element(index)
+    }
+
     /// Writes a field of a held cell, if it stands beside, there are so many and it led nowhere;
     /// answers whether it did.
     #[inline(always)]

@@ -1,6 +1,7 @@
 //! The heap: cells and regions (docs/architecture.md, "The heap").
 
 ghost use Rattle.std.specs.Prelude.{◌≡◌, ◌<◌, ℕ, [], true, false, IfOk, OnErr, length, option_map};
+ghost use Rattle.std.specs.Prelude.{IfSome};
 ghost use Rattle.std.specs.Prelude.{Some, Err, ◌⊎◌, ◌≤◌, ◌↔◌, ◌+◌, ◌*◌, ◌^◌, drop, sum_by};
 ghost use Rattle.rg_base.specs.declared.object.Label.TheVariants.{Region, Temp};
 ghost use Rattle.rg_cells.specs.declared.cell.Body.{Body as BodyOf};
@@ -213,6 +214,36 @@ impl Heap {
     {
         let key = frames.top().region;
         write_element(&mut self.cells, &self.regions, key, slot, index, w)
+    }
+
+    /// An element of an array that stands beside the cells, if it is there.
+    #[inline(always)]
+    pub fn beside(&self, slot: usize, index: usize) -> Option<Word>
+        requires { IsHeld self.now.cells.heap slot }
+        ensures { IfSome result (λ w. field_at self.now.cells.heap slot index ≡ Some w) }
+    {
+        self.cells.beside(slot, index)
+    }
+
+    /// Writes one of these that led nowhere, with a word that leads nowhere, if it is there; answers
+    /// whether it is.
+    #[inline(always)]
+    pub fn replace_plain(&mut self, frames: &Frames, slot: usize, index: usize, w: Word) -> bool
+        requires window { 0 < length frames.now.windows }
+        requires key { OnTop frames.now (λ top. IsKey self.old.regions top.region) }
+        requires held { IsHeld self.old.cells.heap slot }
+        requires plain { (s : ℕ) → w ≡ Word.Slot s → ⊥ }
+        requires place { index < width (body_at self.old.cells.heap slot) →
+            InActive self.old.cells.heap self.old.regions frames.now slot
+            (λ number. Stays self.old.cells.heap number w) ⊎ IsTemp self.old.cells.heap slot }
+        ensures put { result ≡ true → (index < width (body_at self.old.cells.heap slot))
+            × (self.new.cells.heap ≡ with_field self.old.cells.heap slot index w) }
+        ensures lacks { result ≡ false → self.new ≡ self.old }
+        ensures regions { self.new.regions ≡ self.old.regions }
+    {
+        // it is called for its clauses alone
+        let _ = frames.top();
+        self.cells.replace_plain(slot, index, w)
     }
 
     /// Writes a field of a cell of the active region, or of a temporary, and answers what stood
