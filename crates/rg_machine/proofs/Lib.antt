@@ -19,3 +19,4 @@ mod Leave
 mod Giving
 mod Collect
 mod Owned
+mod Over

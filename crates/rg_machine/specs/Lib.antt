@@ -13,4 +13,5 @@ pub mod Cores
 pub mod Makes
 pub mod Acts
 pub mod Among
+pub mod Over
 pub mod Inner

@@ -30,6 +30,7 @@ mod giving;
 mod moves;
 mod new;
 mod numbers;
+pub mod over;
 mod reading;
 mod writing;
 
