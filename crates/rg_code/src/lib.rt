@@ -13,6 +13,7 @@ mod dues;
 mod elements;
 mod headings;
 mod instructions;
+mod loops;
 mod op;
 mod operands;
 mod shape;
