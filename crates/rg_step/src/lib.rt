@@ -10,6 +10,7 @@ mod asks;
 mod collecting;
 mod kept;
 mod leap;
+mod local;
 mod outcome;
 mod room;
 mod step;

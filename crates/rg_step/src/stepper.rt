@@ -1,7 +1,7 @@
 //! The stepper (docs/architecture.md, "The stepper").
 
 ghost use Rattle.std.specs.Prelude.{◌≡◌, ◌≤◌, ℕ, List, None, IfOk, IfSome, OnErr, OnOk};
-ghost use Rattle.std.specs.Prelude.{true};
+ghost use Rattle.std.specs.Prelude.{length, true};
 ghost use Rattle.rg_io.specs.Content.{Rose};
 ghost use Rattle.rg_input.specs.Numbers.{Follows, OnInput};
 ghost use Rattle.rg_tree.specs.Tree.{Tree};
@@ -12,6 +12,7 @@ ghost use Rattle.rg_held.specs.Shown.{Finds, ShowsHeld};
 ghost use Rattle.rg_machine.specs.Active.{IsActive};
 ghost use Rattle.rg_machine.specs.Owned.{IsOwned};
 ghost use Rattle.rg_machine.specs.Parts.{Parts, machine_in};
+ghost use Rattle.rg_machine.specs.Over.{NilBehind};
 ghost use Rattle.rg_step.specs.Pacers.{Asks, SameTuned, both};
 ghost use Rattle.rg_step.specs.States.{Chain, OneStep, Opens, standing};
 ghost use Rattle.rg_step.specs.Steps.{AsksFirst, IsRunning, Leapt, UnlessAsking};
@@ -26,14 +27,14 @@ use crate::collecting::{follow, is_made};
 use crate::kept::{Kept, Since};
 use crate::leap::leap;
 use crate::outcome::outcome;
-use rg_base::{EndNumbers, Event, Manager, Memory, Outcome, Seen};
+use rg_base::{EndNumbers, Event, Manager, Memory, Outcome, Seen, Word};
 use rg_code::CodeList;
 use rg_compute::Stack;
 use rg_frames::Frames;
 use rg_heap::{Active, Heap};
 use rg_input::Numbers;
 use rg_io::Source;
-use rg_machine::Machine;
+use rg_machine::{Machine, WORDS};
 use rg_pace::Pacer;
 use std::alloc::Global;
 use std::marker::Model;
@@ -46,10 +47,13 @@ pub struct Stepper {
     kept: Kept,
     // lent to known steps that compute, so that it is made once
     stack: Stack,
+    // lent to local steps, so that it is made once
+    words: Vec<Word>,
 }
 
 impl Model for Stepper {
     ghost use Rattle.rg_step.specs.Inner.Held.{parts_of, stepping};
+    ghost use Rattle.rg_machine.specs.Over.{NilBehind};
     ghost use Rattle.rg_step.specs.Steps.{IsResting};
     ghost use Rattle.rg_step.specs.Stepping.{Stepping};
 
@@ -57,7 +61,7 @@ impl Model for Stepper {
 
     ghost view = { λ s. stepping (parts_of s.machine) s.kept };
 
-    ghost invariant = { λ s. IsResting (parts_of s.machine) };
+    ghost invariant = { λ s. IsResting (parts_of s.machine) × NilBehind s.words.items 0 };
 }
 
 impl Stepper {
@@ -74,6 +78,7 @@ impl Stepper {
                 events: Vec::new(alloc),
             },
             stack: Stack::new(),
+            words: Vec::new(alloc),
         }
     }
 
@@ -99,6 +104,7 @@ impl Stepper {
             × (self.new ≡ record self.old { parts = p })) }
         ensures kept { OnErr result (self.new ≡ self.old) }
     {
+        widen(&mut self.words)?;
         let machine = Machine::begin(alloc, code.main_slots(), manager)?;
         machine.is_sound();
         self.machine = Some(machine);
@@ -219,7 +225,7 @@ impl Stepper {
         let Some(p) = &mut self.machine else {
             unreachable!();
         };
-        let made = leap(p, &mut self.stack, code, most);
+        let made = leap(p, &mut self.stack, self.words.as_mut_slice(), code, most);
         self.kept.steps = more(self.kept.steps, made);
         made
     }
@@ -277,4 +283,20 @@ fn more(steps: u64, made: u64) -> u64
     } else {
         u64::MAX
     }
+}
+
+/// Gives a buffer of nothing but nil so many words as local steps ask for.
+fn widen(words: &mut Vec<Word>) -> Result<(), Memory>
+    requires blank { NilBehind words.old.items 0 }
+    ensures blank { NilBehind words.new.items 0 }
+    ensures room { OnOk result (258 ≤ length words.new.items) }
+{
+    let mut k = words.len();
+    'widen: while k < WORDS {
+        let Ok(()) = words.push(Word::Nil) else {
+            return Err(Memory);
+        };
+        k += 1;
+    }
+    Ok(())
 }

@@ -27,4 +27,4 @@ returns-clause-begun c =
     }
 
 pub invariant_of-self : goal.invariant_of-self
-invariant_of-self c = let b = c.in_ok-machine.ensures.bare in record { words = b.words; printed = b.printed }
+invariant_of-self c = let b = c.in_ok-machine.ensures.bare in (record { words = b.words; printed = b.printed }, c.self.invariant.1)

@@ -26,7 +26,7 @@ outcome-outcome-requires-clause-runs g c =
     subst P (sym (shows-some c.self.inside.machine c.in-Some.p c.self.inside.kept c.args.self.now c.in-Some.is c.self.view_is)) c.requires.runs
 
 pub outcome-outcome-requires-clause-rests : goal.outcome-outcome-requires-clause-rests
-outcome-outcome-requires-clause-rests g c = rests-some c.self.inside.machine c.in-Some.p c.in-Some.is c.self.invariant
+outcome-outcome-requires-clause-rests g c = rests-some c.self.inside.machine c.in-Some.p c.in-Some.is c.self.invariant.0
 
 pub outcome-outcome-requires-clause-due : goal.outcome-outcome-requires-clause-due
 outcome-outcome-requires-clause-due g c = c.due_at-due.ensures ∙ ap (due_at c.args.code.now.ops) c.at.ensures
