@@ -3,7 +3,9 @@ mod Parts
 mod Whole
 mod Loops
 mod NumbersGiven
+mod Behind
 mod InOrder
+mod Alone
 mod Counts
 mod Ranges
 mod Examples

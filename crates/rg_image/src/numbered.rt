@@ -11,13 +11,16 @@ use rg_base::{Label, Val};
 fn named(last: u64, number: u64) -> Option<u64>
     ensures { option_map suc result ≡ cargo.named (suc last) number }
 {
-    if number <= last {
+    let Some(before) = number.checked_sub(1) else {
+        return Some(last);
+    };
+    if before > last {
+        return None;
+    }
+    if before < last {
         return Some(last);
     }
-    if number - 1 == last {
-        return Some(number);
-    }
-    None
+    Some(number)
 }
 
 // The same behind a value.

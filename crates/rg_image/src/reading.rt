@@ -6,6 +6,7 @@ ghost use Rattle.rg_spell.specs.Reading.{Finds, Gives, manager_at, many_at};
 ghost use Rattle.rg_image.specs.Inner.Reading.{count_at, counted_at};
 ghost use Rattle.rg_image.specs.Inner.Reading.{int_at, truth_at, object_at, value_behind, value_at};
 ghost use Rattle.rg_image.specs.Inner.Reading.{region_at, label_behind, label_at, cell_at};
+ghost use Rattle.rg_image.specs.Inner.Reading.{behind};
 ghost use Rattle.rg_image.specs.Inner.Reading.{cargo_at, held_at, content_behind, content_at};
 ghost use Rattle.rg_image.specs.Inner.Reading.{magic_at, image_at};
 
@@ -132,12 +133,16 @@ fn take_label(bytes: &[u8]) -> Option<(Label, &[u8])>
     take_label_behind(kind, rest)
 }
 
-// So many values.
+// So many values, into none.
 #[inline(always)]
-fn take_many_values(alloc: Global, count: u64, bytes: &[u8]) -> Result<(Fields, &[u8]), Refusal>
-    ensures { Gives (λ x. (x.0, x.1.now)) result (many_at value_at count bytes.now) }
+fn take_many_values<'a>(
+    values: &mut Fields,
+    count: u64,
+    bytes: &'a [u8],
+) -> Result<&'a [u8], Refusal>
+    requires { values.old ≡ [] }
+    ensures { Gives (λ rest. (values.new, rest.now)) result (many_at value_at count bytes.now) }
 {
-    let mut values = Fields::new(alloc);
     let mut rest = bytes;
     for _ in 0..count {
         let Some((value, after)) = take_value(rest) else {
@@ -148,26 +153,29 @@ fn take_many_values(alloc: Global, count: u64, bytes: &[u8]) -> Result<(Fields, 
         };
         rest = after;
     }
-    Ok((values, rest))
+    Ok(rest)
 }
 
-// A count of values, and the values.
+// A count of values, and the values, into none.
 #[tactic(auto, unfolding(crate::specs::Inner::Reading::counted_at))]
 #[inline(always)]
-fn take_values(alloc: Global, bytes: &[u8]) -> Result<(Fields, &[u8]), Refusal>
-    ensures { Gives (λ x. (x.0, x.1.now)) result (counted_at value_at bytes.now) }
+fn take_values<'a>(values: &mut Fields, bytes: &'a [u8]) -> Result<&'a [u8], Refusal>
+    requires { values.old ≡ [] }
+    ensures { Gives (λ rest. (values.new, rest.now)) result (counted_at value_at bytes.now) }
 {
     let Some((count, rest)) = take_count(bytes) else {
         return Err(Refusal::NotSpelt);
     };
-    take_many_values(alloc, count, rest)
+    take_many_values(values, count, rest)
 }
 
-// An object.
+// An object, behind those of a cargo.
 #[tactic(auto, unfolding(crate::specs::Inner::Reading::cell_at))]
 #[inline(always)]
-fn take_cell(alloc: Global, bytes: &[u8]) -> Result<(CargoCell, &[u8]), Refusal>
-    ensures { Gives (λ x. (x.0, x.1.now)) result (cell_at bytes.now) }
+fn take_cell<'a>(alloc: Global, cargo: &mut Cargo, bytes: &'a [u8]) -> Result<&'a [u8], Refusal>
+    ensures read { Gives (λ rest. (cargo.new.cells, rest.now)) result
+        (behind cargo.old.cells (cell_at bytes.now)) }
+    ensures managers { cargo.new.managers ≡ cargo.old.managers }
 {
     let Some((class, rest)) = take_u32(bytes) else {
         return Err(Refusal::NotSpelt);
@@ -175,8 +183,9 @@ fn take_cell(alloc: Global, bytes: &[u8]) -> Result<(CargoCell, &[u8]), Refusal>
     let Some((label, rest)) = take_label(rest) else {
         return Err(Refusal::NotSpelt);
     };
-    let (fields, rest) = match take_values(alloc, rest) {
-        Ok(pair) => pair,
+    let mut fields = Fields::new(alloc);
+    let rest = match take_values(&mut fields, rest) {
+        Ok(rest) => rest,
         Err(e) => return Err(e),
     };
     let cell = CargoCell {
@@ -184,7 +193,10 @@ fn take_cell(alloc: Global, bytes: &[u8]) -> Result<(CargoCell, &[u8]), Refusal>
         label,
         fields,
     };
-    Ok((cell, rest))
+    let Ok(()) = cargo.add_cell(cell) else {
+        return Err(Refusal::Memory);
+    };
+    Ok(rest)
 }
 
 // So many managers, and no objects.
@@ -245,14 +257,10 @@ fn take_many_cells(
     };
     let mut rest = bytes;
     for _ in 0..count {
-        let (cell, after) = match take_cell(alloc, rest) {
-            Ok(pair) => pair,
+        rest = match take_cell(alloc, &mut cargo, rest) {
+            Ok(after) => after,
             Err(e) => return Err(e),
         };
-        let Ok(()) = cargo.add_cell(cell) else {
-            return Err(Refusal::Memory);
-        };
-        rest = after;
     }
     Ok((cargo, rest))
 }

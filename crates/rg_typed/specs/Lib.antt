@@ -1,2 +1,3 @@
 -- Which contents fit a program (docs/architecture.md, "Cargo").
 pub mod Typed
+pub mod Known

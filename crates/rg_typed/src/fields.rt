@@ -14,31 +14,9 @@ ghost use Rattle.rg_cown.specs.Cargo as cargo;
 ghost use Rattle.rg_typed.specs.Typed as typed;
 
 use rg_base::{ARRAY_SIZE, Cap, Label, Val};
-use rg_cown::{CargoCell, Fields};
+use rg_cown::CargoCell;
 use rg_names::{Book, tables_are_of_good_headers};
 use rg_tree::{MemberRow, TypeRow};
-
-// Whether a label is that of a region.
-#[inline(always)]
-fn is_in(region: u64, label: Label) -> bool
-    ensures { result ≡ cargo.is_in region (Some label) }
-{
-    match label {
-        Label::Region(own) => own == region,
-        Label::Temp(_) | Label::Frozen => false,
-    }
-}
-
-// Whether a label is that of a region other than this one.
-#[inline(always)]
-fn is_outside(region: u64, label: Label) -> bool
-    ensures { result ≡ typed.is_outside region label }
-{
-    match label {
-        Label::Region(own) => own != region,
-        Label::Temp(_) | Label::Frozen => false,
-    }
-}
 
 // Whether a label is that of a frozen object.
 #[inline(always)]
@@ -56,11 +34,17 @@ fn is_frozen(label: Label) -> bool
 fn region_field_fits(region: u64, cap: Cap, to: Label) -> bool
     ensures { result ≡ typed.region_field_fits region cap to }
 {
-    match cap {
-        Cap::Mut => is_in(region, to),
-        Cap::Tmp | Cap::Paused => false,
-        Cap::Imm => is_frozen(to),
-        Cap::Iso => is_outside(region, to),
+    match to {
+        Label::Region(other) => match cap {
+            Cap::Mut => other == region,
+            Cap::Tmp | Cap::Paused | Cap::Imm => false,
+            Cap::Iso => other != region,
+        },
+        Label::Temp(_) => false,
+        Label::Frozen => match cap {
+            Cap::Imm => true,
+            Cap::Mut | Cap::Tmp | Cap::Paused | Cap::Iso => false,
+        },
     }
 }
 
@@ -165,6 +149,22 @@ fn is_iso(ty: TypeRow) -> bool
     }
 }
 
+// The value at a place; None past the last one.
+#[inline(always)]
+fn value_at(values: &[Val], at: usize) -> Option<Val>
+    ensures { result ≡ slice_get values.now at }
+{
+    values.get(at).copied()
+}
+
+// How many values there are.
+#[inline(always)]
+fn count_of(values: &[Val]) -> usize
+    ensures { result ≡ length values.now }
+{
+    values.len()
+}
+
 /// Whether there are as many values as fields among members, and each meets its type.
 #[inline(always)]
 pub(crate) fn fields_fit(
@@ -172,19 +172,19 @@ pub(crate) fn fields_fit(
     cells: &[CargoCell],
     own: Label,
     these: &[u32],
-    values: &Fields,
+    values: &[Val],
 ) -> bool
     requires { All (λ k. k < length book.now.program.members) these.now }
     ensures { let t = book.now.program in
         result ≡ typed.fields_fit (rows.classes_of t) cells.now own
         (filter_map field_member (map (rows.member_at t) these.now)) values.now }
 {
-    let count = values.len();
+    let count = count_of(values);
     let mut at = 0;
     for k in these {
         match book.member(*k) {
             MemberRow::Field { ty, .. } => {
-                let Some(value) = values.get(at) else {
+                let Some(value) = value_at(values, at) else {
                     return false;
                 };
                 if !value_fits(book, cells, own, ty, value) {

@@ -1,5 +1,5 @@
 -- A content read from the front of bytes, part by part: a part and the bytes behind it, or nothing where no such part begins them.
-use Rattle.std.specs.Prelude.{ℕ, nat_lt, ◌==◌, if◌then◌else◌, bytes_eq, codes, List, length, take, drop, Option, Some, None}
+use Rattle.std.specs.Prelude.{ℕ, nat_lt, ◌==◌, if◌then◌else◌, bytes_eq, codes, List, [], ◌∷◌, ◌++◌, length, take, drop, Option, Some, None}
 use Rattle.std.specs.Int.{w32, w64}
 use Rattle.rg_base.specs.declared.object.Label.{Label}
 use Rattle.rg_base.specs.declared.object.Label.TheVariants.{Region, Frozen}
@@ -70,6 +70,11 @@ cell_at bytes = do
   label ← label_at class.1
   fields ← counted_at value_at label.1
   Some (record { class = class.0; label = label.0; fields = fields.0 }, fields.1)
+
+-- a part behind others that were read
+abbrev pub behind : {A : Type 0} → List A → Option (A × List ℕ) → Option (List A × List ℕ)
+behind others None = None
+behind others (Some x) = Some (others ++ x.0 ∷ [], x.1)
 
 -- managers and objects
 unfoldable pub cargo_at : List ℕ → Option (CargoList × List ℕ)

@@ -20,7 +20,7 @@ returns-then-not-value_fits c =
 
 pub overflow_add-at : goal.overflow_add-at
 overflow_add-at c =
-    omega (arith, slice_get_within c.args.values.now c.loop-k.at c.in-Some.value (sym c.in-Some.ensures), c.len-count.ensures, c.len-count.type_inv)
+    omega (arith, slice_get_within c.args.values.now c.loop-k.at c.in-Some.value (sym c.in-Some.ensures), c.count_of-count.ensures, c.count_of-count.type_inv)
 
 pub loop-k-preserved : goal.loop-k-preserved
 loop-k-preserved c =
@@ -48,4 +48,4 @@ returns c =
     let t = c.args.book.now.program in
     let all = all-passed t (classes_of t) c.args.cells.now c.args.own c.args.these.now c.loop-k.k-index c.args.values.now c.loop-k.at
     c.loop-k-test.false c.loop-k.invariant.within in
-    rw c.len-count.ensures (sym all ∙ c.loop-k.invariant.rest)
+    rw c.count_of-count.ensures (sym all ∙ c.loop-k.invariant.rest)
