@@ -15,9 +15,7 @@ use Rattle.rg_rules.specs.State.{State}
 use Rattle.rg_code.specs.Code.{Code}
 use Rattle.rg_code.specs.Lowering.{Lowers}
 use Rattle.rg_plain.specs.Runs.{RunShows}
-use Rattle.rg_step.specs.Asking.{YesesTold}
-use Rattle.rg_step.specs.Yeses.{paced_by, raised}
-use Rattle.rg_step.specs.Pacers.{Asks}
+use Rattle.rg_run.specs.Asked.{Asks, YesesTold, paced_by, raised}
 use Rattle.rg_run.specs.Collected.{Tells}
 use Rattle.rg_run.specs.Machine.{Kept, IsFresh, Shows, ShowsAt}
 use Rattle.rg_run.specs.Sound.{Stands}

@@ -15,7 +15,7 @@ use Rattle.rg_input.proofs.Input.{some-comes}
 use Rattle.rg_code.specs.Code.{Code}
 use Rattle.rg_plain.specs.Machine.{Machine, Begins, state_of}
 use Rattle.rg_plain.specs.Runs.{answer, RunIs, RunShows, IsState, NoneAsks, begun, Whole, StandsAt, CutOff, CutAtInput}
-use Rattle.rg_step.specs.Pacers.{Asks}
+use Rattle.rg_run.specs.Asked.{Asks}
 use Rattle.rg_run.specs.Collected.{Tells}
 use Rattle.rg_run.specs.Machine.{Kept, IsFresh, ShowsAt}
 use Rattle.rg_run.specs.Sound.{Stands, NeverAsks}

@@ -6,7 +6,7 @@ use Rattle.rg_base.specs.declared.fault.Fault.{Fault}
 use Rattle.rg_base.specs.declared.outcome.Ended.{Ended}
 use Rattle.rg_base.specs.declared.outcome.Ended.TheVariants as ended
 use Rattle.rg_io.specs.Files.{Told}
-use Rattle.rg_step.specs.Stepping.{Stepping}
+use Rattle.rg_run.specs.Machine.{Stepping}
 use Rattle.rg_run.specs.Machine.{Kept, IsFresh}
 use Rattle.rg_run.specs.Reports.{Reports}
 use Rattle.rg_words.specs.declared.status.Status.{Status}

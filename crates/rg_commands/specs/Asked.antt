@@ -10,8 +10,7 @@ use Rattle.rg_tree.specs.Rows.RowTrees.{program_of}
 use Rattle.rg_rules.specs.Outside.Asks.{asks}
 use Rattle.rg_code.specs.Code.{Code}
 use Rattle.rg_code.specs.Lowering.{Lowers}
-use Rattle.rg_step.specs.Yeses.{paced_by, raised}
-use Rattle.rg_step.specs.Pacers.{Asks}
+use Rattle.rg_run.specs.Asked.{Asks, paced_by, raised}
 use Rattle.rg_run.specs.Machine.{Kept, IsFresh}
 use Rattle.rg_run.specs.Sound.{Stands}
 use Rattle.rg_run.specs.States.{RunsThrough}

@@ -2,7 +2,7 @@
 use Rattle.std.specs.Prelude.{◌≡◌, ℕ, Bool, false, List, Option}
 use Rattle.rg_pace.specs.Asked.{Asked}
 use Rattle.rg_run.specs.Machine.{IsFresh}
-use Rattle.rg_step.specs.Pacers.{SameTuned, both}
+use Rattle.rg_run.specs.Asked.{SameTuned, both}
 use Rattle.rg_commands.specs.declared.setting.Setting.{Setting}
 use Rattle.rg_words.specs.declared.status.Status.{Status}
 use Rattle.rg_words.specs.Commands.{Command, Origin, reports}

@@ -4,7 +4,7 @@ ghost use Rattle.std.specs.Prelude.{◌≡◌, ◌≤◌, ℕ, List, false};
 ghost use Rattle.rg_tree.specs.Rows.RowTrees.{program_of};
 ghost use Rattle.rg_io.specs.Content.{Rose};
 ghost use Rattle.rg_io.specs.Files.{BegunAre};
-ghost use Rattle.rg_step.specs.Pacers.{SameTuned, both};
+ghost use Rattle.rg_run.specs.Asked.{SameTuned, both};
 ghost use Rattle.rg_words.specs.Commands.{origin_of, opens_file, reads_input, is_slide};
 ghost use Rattle.rg_words.specs.Commands.{runs_on, is_scheduled};
 ghost use Rattle.rg_words.specs.Requests.{command_of, command_for, AsksWithin, TaskWithin};

@@ -3,7 +3,7 @@
 ghost use Rattle.std.specs.Prelude.{◌≡◌, ◌≤◌};
 ghost use Rattle.rg_io.specs.Content.{Rose};
 ghost use Rattle.rg_io.specs.Files.{BegunAre};
-ghost use Rattle.rg_step.specs.Pacers.{SameTuned, both};
+ghost use Rattle.rg_run.specs.Asked.{SameTuned, both};
 ghost use Rattle.rg_words.specs.Commands.{when, with_plan};
 ghost use Rattle.rg_sources.specs.Opens.{Opens};
 ghost use Rattle.rg_commands.specs.Setting.{IsUnused, IsLent, SettlesCommandIn, CausedIn};

@@ -5,8 +5,9 @@ use Rattle.rg_base.specs.declared.words.Manager.{Manager}
 use Rattle.rg_base.specs.declared.words.Manager.TheVariants.{Count, Trace}
 use Rattle.rg_tree.specs.Tree.{Tree}
 use Rattle.rg_rules.specs.Outside.Asks.{asks}
-use Rattle.rg_step.specs.Yeses.{paced_by, raised}
-use Rattle.rg_step.specs.Pacers.{Asks}
+pub use Rattle.rg_step.specs.Yeses.{paced_by, raised}
+pub use Rattle.rg_step.specs.Pacers.{Asks, SameTuned, both}
+pub use Rattle.rg_step.specs.Asking.{YesesTold}
 use Rattle.rg_run.specs.Machine.{Kept}
 
 -- over the first steps of a program on an input, so many, each pacer was asked once for each of them that asks it

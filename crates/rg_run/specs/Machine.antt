@@ -10,7 +10,7 @@ use Rattle.rg_code.specs.Lowering.{Lowers}
 use Rattle.rg_held.specs.Gone.{gone}
 use Rattle.rg_held.specs.Shown.{ShowsHeld}
 use Rattle.rg_machine.specs.Parts.{machine_in}
-use Rattle.rg_step.specs.Stepping.{Stepping}
+pub use Rattle.rg_step.specs.Stepping.{Stepping}
 use Rattle.rg_step.specs.Stepping as stepper
 
 -- whether a run has begun, the stack machine, and the whole steps that it made

@@ -4,8 +4,7 @@ use Rattle.rg_tree.specs.Tree.{Tree}
 use Rattle.rg_code.specs.Code.{Code}
 use Rattle.rg_cown.specs.Cargo.{CargoList}
 use Rattle.rg_plan.specs.Plans.{PlanOf}
-pub use Rattle.rg_world.specs.Worlds.{WorldIn, IsBehind}
-pub use Rattle.rg_step.specs.Pacers.{SameTuned, both}
+pub use Rattle.rg_world.specs.Worlds.{SameTuned, both, WorldIn, IsBehind}
 use Rattle.rg_schedule.specs.declared.running.Behind.{Behind}
 use Rattle.rg_schedule.specs.declared.stop.SchedStop.{SchedStop}
 use Rattle.rg_schedule.specs.declared.stop.SchedStop.TheVariants as stop

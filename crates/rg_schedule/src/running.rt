@@ -6,7 +6,7 @@ ghost use Rattle.rg_input.specs.Numbers.{Follows, OnInput};
 ghost use Rattle.rg_tree.specs.Rows.RowTrees.{program_of};
 ghost use Rattle.rg_code.specs.Lowering.{Lowers};
 ghost use Rattle.rg_contents.specs.Read.{IsReadFor};
-ghost use Rattle.rg_step.specs.Pacers.{SameTuned, both};
+ghost use Rattle.rg_world.specs.Worlds.{SameTuned, both};
 ghost use Rattle.rg_schedule.specs.Schedules.{behaviour_of, schedule_of};
 ghost use Rattle.rg_schedule.specs.Running.{CountIs, RunIs};
 ghost use Rattle.rg_schedule.specs.Inner.Runs.{Names};

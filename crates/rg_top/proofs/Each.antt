@@ -16,7 +16,7 @@ use Rattle.rg_module.specs.Laws.{SpellsOneModule}
 use Rattle.rg_raised.specs.Raises.{Raises}
 use Rattle.rg_verified.specs.Told.{RaisedAlike}
 use Rattle.rg_rules.specs.Outside.Asks.{asks}
-use Rattle.rg_step.specs.Yeses.{raised}
+use Rattle.rg_run.specs.Asked.{raised}
 use Rattle.rg_run.specs.Machine.{Kept, IsFresh}
 use Rattle.rg_run.specs.Sound.{Stands, NeverAsks}
 use Rattle.rg_alike.specs.Laws.{StandAlike}

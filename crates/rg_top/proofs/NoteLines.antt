@@ -6,7 +6,7 @@ use Rattle.rg_base.specs.declared.event.Event.{Event}
 use Rattle.rg_base.specs.Report.{end_line}
 use Rattle.rg_io.specs.Content.{Rose, Appends, AppendsPart, IsPrefix}
 use Rattle.rg_io.proofs.Content.{Appends-more}
-use Rattle.rg_step.specs.Stepping.{Stepping}
+use Rattle.rg_run.specs.Machine.{Stepping}
 use Rattle.rg_run.specs.Machine.{Kept, IsFresh, numbers_of}
 use Rattle.rg_run.specs.Reports.{event_lines, AreCutLines}
 use Rattle.rg_words.specs.declared.status.Status.{Status}

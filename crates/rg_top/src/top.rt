@@ -10,7 +10,7 @@ ghost use Rattle.rg_tree.specs.Rows.Tables.{Tables};
 ghost use Rattle.rg_io.specs.Content.{Rose};
 ghost use Rattle.rg_io.specs.Files.{BegunAre};
 ghost use Rattle.rg_machine.specs.Owned.{IsOwned};
-ghost use Rattle.rg_step.specs.Pacers.{SameTuned, both};
+ghost use Rattle.rg_run.specs.Asked.{SameTuned, both};
 ghost use Rattle.rg_run.specs.Sound.{Stands};
 ghost use Rattle.rg_run.specs.Machine.{IsFresh};
 ghost use Rattle.rg_words.specs.Commands.{Command, command, texts, origin_of, steps_of, may_open};

@@ -10,6 +10,7 @@ use Rattle.rg_sched.specs.Contents.{Content}
 use Rattle.rg_sched.specs.Settings.{setting_of}
 use Rattle.rg_sched.specs.Atomic.{World}
 use Rattle.rg_sched.specs.Events.{world_after}
+pub use Rattle.rg_step.specs.Pacers.{SameTuned, both}
 use Rattle.rg_contents.specs.Read.{IsReadFor}
 use Rattle.rg_world.specs.declared.progress.Progress.{Progress}
 use Rattle.rg_world.specs.Standing.{IsProgress}

@@ -1,6 +1,6 @@
 use Rattle.std.proofs.Common.{◌≤◌, ◌-◌}
 use Rattle.rg_input.specs.Numbers.{Follows}
-use Rattle.rg_step.specs.Pacers.{SameTuned, both}
+use Rattle.rg_world.specs.Worlds.{SameTuned, both}
 use Rattle.rg_tree.specs.Rows.RowTrees.{program_of}
 use Rattle.rg_schedule.specs.declared.limits.TheConstants.{SCHEDULE}
 use Rattle.rg_schedule.proofs.Numbered.{SoFar}
