@@ -21,10 +21,19 @@ ANSWERS = {"Next": ["Trap", "Lost", "Memory"], "Outcome": ["Done", "Printed", "T
 FIELDS = {"CountedRun": ("ended", "Ended")}
 # These say yes, or tell something, only to be quick: their other answer may come at any time, and callers go the long way.
 FREE = {
-    "rg_code::CodeList::known": "None", "rg_code::CodeList::shapes": "None", "rg_heap::Heap::is_at_home": "false", "rg_machine::Machine::behind": "None",
+    "rg_code::CodeList::known": "None", "rg_code::CodeList::shapes": "None", "rg_code::CodeList::loops": "None",
+    "rg_heap::Heap::is_at_home": "false", "rg_machine::Machine::behind": "None",
+    "rg_heap::Heap::beside": "None", "rg_heap::Heap::replace_plain": "false", "rg_cells::Cells::beside": "None",
+    "rg_machine::int_among": "None", "rg_machine::get_among": "false", "rg_machine::element_among": "None",
+    "rg_machine::put_among": "false", "rg_machine::put_int_among": "false", "rg_machine::end_among": "false",
     "rg_compute::compute": "None", "rg_compute::leading": "None", "rg_compute::holds": "None", "rg_compute::operated": "None",
     "rg_known::test_int": "None", "rg_known::test_slot": "None", "rg_known::operate_int": "None",
     "rg_known::operate_slot": "None", "rg_known::quick": "None",
+    "rg_local::local_less_int": "None", "rg_local::local_less_slot": "None", "rg_local::local_test_slot": "None",
+    "rg_local::local_test_at": "None", "rg_local::local_add_int": "None", "rg_local::local_add_slot": "None",
+    "rg_local::local_add_product": "None", "rg_local::local_get_at": "None", "rg_local::local_get_beyond": "None",
+    "rg_local::local_put_at": "None", "rg_local::local_put_int_at": "None", "rg_local::local_put_beyond": "None",
+    "rg_local::local_end": "None", "rg_local::local_end_jump": "None", "rg_local::local_seldom": "None",
     "rg_pace::Pacer::ask": "false",
 }
 # Answers that no run of a program's code comes to, as their clause on when they come says: nothing need hold behind them.
@@ -54,7 +63,7 @@ NO_MEMORY = {
     "rg_move": "freeze",
     "rg_heap": "Heap::new Heap::read Heap::write Heap::swap Heap::leave Heap::freeze Heap::drop_iso Heap::collect"
                " Heap::collect_sliding Heap::numbers Heap::active Heap::serial Heap::owns",
-    "rg_compute": "*", "rg_known": "*",
+    "rg_compute": "*", "rg_known": "*", "rg_local": "*",
     "rg_step": "Stepper::new Stepper::heap Stepper::frames Stepper::events Stepper::numbers",
     "rg_input": "*",
     "rg_run": "Machine::new Machine::is_fresh Machine::events Machine::numbers",
