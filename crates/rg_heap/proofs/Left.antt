@@ -1,7 +1,7 @@
 -- A window is left: its temporaries go, and the regions that they own (docs/architecture.md, "The heap").
-use Rattle.std.proofs.Common.{◌≡◌, ◌≢◌, ℕ, zero, suc, List, [], ◌∷◌, Option, Some, None, length}
+use Rattle.std.proofs.Common.{◌≡◌, ◌≢◌, ◌==◌, arith, ℕ, zero, suc, List, [], ◌∷◌, Option, Some, None, length}
 use Rattle.std.proofs.Common.{refl, ap, sym, ◌∙◌, subst, ◌⊎◌, inl, inr, slice_get, option_map, true, false}
-use Rattle.std.proofs.lemmas.Bool.{cases_eq}
+use Rattle.std.proofs.lemmas.Bool.{cases_eq, eqb-true}
 use Rattle.std.proofs.lemmas.Option.{slice_get_within, same_Some}
 use Rattle.rg_base.specs.declared.object.Label.{Label}
 use Rattle.rg_base.specs.declared.object.Label.TheVariants.{Region, Temp, Frozen}
@@ -237,6 +237,26 @@ module _ (c : Table) (t : RegionTable) (v : Stack) (g : Grove c t) (a : CanLeave
             high = ended.high ∙ was_gone.high;
             numbers = was_gone.numbers;
           }
+
+pub no_temps : (ts : List ℕ) → (length ts == 0) ≡ true → ts ≡ []
+no_temps [] e = refl
+no_temps (x ∷ xs) e = let none = eqb-true (length (x ∷ xs)) 0 e in absurd (omega (arith, none))
+
+-- a window that has no temporaries
+pub released_none : (p : Parts) (v : Stack) → top_temps v ≡ [] → Released p p (GoesAlong p v) (IsTopTemp v)
+released_none p v none = record {
+  freed = λ q s w l. absurd (no_temp w.1.place w.1.slot w.1.stands);
+  ended = λ s w. absurd (no_temp w.0 s w.1);
+  cells = λ s n m. refl;
+  removed = λ key q w h. absurd (no_temp w.1.place w.1.slot w.1.stands);
+  records = λ key n. refl;
+  serials = refl;
+  high = refl;
+  numbers = refl;
+}
+  where
+    no_temp : (i s : ℕ) → slice_get (top_temps v) i ≡ Some s → ⊥
+    no_temp i s is = let z : None ≡ Some s = sym (ap (λ ts. slice_get ts i) none) ∙ is in cc
 
 -- the chain that was made of the temporaries
 pub chain_of : (c : Table) (t : RegionTable) (v : Stack) (mid : RegionTable) (head : Option ℕ) (slots : List ℕ) → Grove c t

@@ -133,7 +133,26 @@ pub fn free_cells(cells: &mut Cells, slots: &[usize])
 }
 
 /// Releases the regions that the top window's temporaries own, and frees these.
+#[inline]
 pub fn end_temps(cells: &mut Cells, regions: &mut Regions, frames: &Frames)
+    requires grove { Grove cells.old regions.old }
+    requires begun { Begun frames.now }
+    requires temps { CanLeave (record { cells = cells.old; regions = regions.old }) frames.now }
+    ensures released { Released (record { cells = cells.old; regions = regions.old })
+        (record { cells = cells.new; regions = regions.new })
+        (GoesAlong (record { cells = cells.old; regions = regions.old }) frames.now)
+        (IsTopTemp frames.now) }
+    ensures grove { Grove cells.new regions.new }
+{
+    if frames.temps().is_empty() {
+        return;
+    }
+    end_some_temps(cells, regions, frames);
+}
+
+// The same, also where it has some.
+#[inline(never)]
+fn end_some_temps(cells: &mut Cells, regions: &mut Regions, frames: &Frames)
     requires grove { Grove cells.old regions.old }
     requires begun { Begun frames.now }
     requires temps { CanLeave (record { cells = cells.old; regions = regions.old }) frames.now }

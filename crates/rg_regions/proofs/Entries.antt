@@ -27,7 +27,7 @@ removed-is xs next key = ap (λ ys. record { records = ys; links = map link_of (
     ∙ ap (λ ys. record { records = set (map shown xs) key None; links = ys; next = next }) (map-set link_of xs key None)
 
 -- a number that another key has
-same-key : (entries : List (ℕ × ℕ)) (t : RegionTable) (a b n : ℕ) → IsIndexed entries t → HasNumber t a n → HasNumber t b n → a ≡ b
+pub same-key : (entries : List (ℕ × ℕ)) (t : RegionTable) (a b n : ℕ) → IsIndexed entries t → HasNumber t a n → HasNumber t b n → a ≡ b
 same-key entries t a b n i p q = same_Some a b (sym (i.all n a p) ∙ i.all n b q)
 
 -- what the slots without one key show

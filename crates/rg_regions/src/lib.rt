@@ -6,6 +6,7 @@
 
 mod chains;
 mod counts;
+mod hints;
 mod owned;
 mod places;
 mod region;

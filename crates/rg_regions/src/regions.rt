@@ -12,6 +12,7 @@ ghost use Rattle.rg_regions.specs.Ordered.{Orders};
 ghost use Rattle.rg_regions.specs.Collection.{OfRegion};
 ghost use Rattle.rg_regions.specs.Inner.Layout.{record_of};
 
+use crate::hints::{hint, keep_hint};
 use crate::places;
 use crate::region::{Kept, Region};
 use indexmap::IndexMap;
@@ -26,6 +27,8 @@ pub struct Regions {
     records: Slab<Region>,
     // the key of each number
     keys: IndexMap<u64, usize>,
+    // keys that numbers may have: whoever takes one tests it
+    hints: Vec<usize>,
     next: u64,
 }
 
@@ -47,6 +50,7 @@ impl Drop for Regions {
             alloc: _,
             records: _,
             keys: _,
+            hints: _,
             next: _,
         } = self;
     }
@@ -63,6 +67,7 @@ impl Regions {
             alloc,
             records: Slab::new(alloc),
             keys: IndexMap::new(alloc),
+            hints: Vec::new(alloc),
             next: 0,
         }
     }
@@ -87,7 +92,22 @@ impl Regions {
     }
 
     /// The key of a number, where it is in the table.
+    #[inline]
     pub fn key(&self, number: u64) -> Option<usize>
+        ensures some { IfSome result (λ key. HasNumber self.now key number) }
+        ensures only { (key : ℕ) → HasNumber self.now key number → result ≡ Some key }
+    {
+        if let Some(key) = hint(&self.hints, number) {
+            if self.has_number(key, number) {
+                return Some(key);
+            }
+        }
+        self.key_by_map(number)
+    }
+
+    // The same, with no look at the hints.
+    #[inline(never)]
+    fn key_by_map(&self, number: u64) -> Option<usize>
         ensures some { IfSome result (λ key. HasNumber self.now key number) }
         ensures only { (key : ℕ) → HasNumber self.now key number → result ≡ Some key }
     {
@@ -234,6 +254,7 @@ impl Regions {
             bridge: None,
             link: None,
         });
+        keep_hint(&mut self.hints, self.next, key);
         self.next += 1;
         Ok(key)
     }
