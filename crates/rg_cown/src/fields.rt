@@ -1,6 +1,8 @@
 //! The values of an object of a cargo (docs/architecture.md, "Cargo").
 
-ghost use Rattle.std.specs.Prelude.{◌≡◌, ◌<◌, [], ◌∷◌, ◌++◌, length, slice_get, OnOk, OnErr};
+ghost use Rattle.std.specs.Prelude.{◌≡◌, ◌<◌, ◌≤◌, [], ◌∷◌, ◌++◌, length, slice_get, OnOk, OnErr};
+ghost use Rattle.std.specs.Prelude.{IfOk, Some, take};
+ghost use Rattle.rg_cown.specs.Inner.Room.{value_of, kind_in, values_of, values_in, AreFew};
 
 use rg_base::{Memory, Val};
 use std::alloc::Global;
@@ -14,68 +16,191 @@ pub struct Fields {
     room: Room,
 }
 
-// Where the values stand.
+/// A value as it stands in an object; contracts see the value.
+#[derive(Drop)]
+pub struct Packed {
+    kind: Kind,
+    number: u64,
+}
+
+// What kind of value stands there.
+#[derive(Clone, Copy)]
+enum Kind {
+    Nil,
+    Int,
+    Bool,
+    Obj,
+}
+
+// Where the values stand. What stands in the object are kinds and numbers, of which so many count.
 #[derive(Drop)]
 enum Room {
-    Here(Few),
+    Here {
+        count: u8,
+        kinds: [Kind; 3],
+        numbers: [u64; 3],
+    },
     Beside(Vec<Val>),
 }
 
-// Up to three values; contracts see the list.
-#[derive(Drop)]
-struct Few {
-    // behind those that count, nil
-    values: [Val; 3],
-    count: u8,
+// The value of that kind and number.
+#[inline(always)]
+fn value_in(kind: Kind, number: u64) -> Val
+    ensures { result ≡ value_of kind number }
+{
+    match kind {
+        Kind::Nil => Val::Nil,
+        Kind::Int => Val::Int(number.cast_signed()),
+        Kind::Bool => Val::Bool(number != 0),
+        Kind::Obj => Val::Obj(number),
+    }
 }
 
-impl Model for Few {
-    ghost use Rattle.std.specs.Prelude.{List, take, ◌≤◌};
+// The kind of a value.
+#[inline(always)]
+fn kind_of(v: Val) -> Kind
+    ensures { result ≡ kind_in v }
+{
+    match v {
+        Val::Nil => Kind::Nil,
+        Val::Int(_) => Kind::Int,
+        Val::Bool(_) => Kind::Bool,
+        Val::Obj(_) => Kind::Obj,
+    }
+}
+
+// The number of a value.
+#[inline(always)]
+fn number_in(v: Val) -> u64
+    ensures { value_of (kind_in v) result ≡ v }
+{
+    match v {
+        Val::Nil => 0,
+        Val::Int(n) => n.cast_unsigned(),
+        Val::Bool(b) => u64::from(b),
+        Val::Obj(object) => object,
+    }
+}
+
+impl Model for Packed {
     ghost use Rattle.rg_base.specs.declared.value.Val.{Val};
+    ghost use Rattle.rg_cown.specs.Inner.Room.{value_of};
 
-    ghost Value = { List Val };
+    ghost Value = { Val };
 
-    ghost view = { λ f. take f.count f.values };
-
-    ghost invariant = { λ f. f.count ≤ 3 };
+    ghost view = { λ p. value_of p.kind p.number };
 }
 
-impl Few {
+impl Packed {
+    /// A value.
     #[inline(always)]
-    fn new() -> Few
-        ensures { result ≡ [] }
+    pub fn of(v: Val) -> Packed
+        ensures { result ≡ v }
     {
-        Few {
-            values: [Val::Nil; 3],
-            count: 0,
+        Packed {
+            kind: kind_of(v),
+            number: number_in(v),
         }
     }
+}
 
-    #[inline(always)]
-    fn as_slice(&self) -> &[Val]
-        ensures { result.now ≡ self.now }
-    {
-        &self.values[..self.count as usize]
+// One value more behind those that count.
+#[inline(always)]
+fn and(count: u8, kinds: &[Kind; 3], numbers: &[u64; 3], v: Val) -> Room
+    requires { count < 3 }
+    ensures values { values_in result ≡ values_of count kinds.now numbers.now ++ v ∷ [] }
+    ensures few { AreFew result }
+{
+    let mut kinds = *kinds;
+    let mut numbers = *numbers;
+    kinds[count as usize] = kind_of(v);
+    numbers[count as usize] = number_in(v);
+    Room::Here {
+        count: count + 1,
+        kinds,
+        numbers,
     }
+}
 
-    #[inline(always)]
-    fn push(&mut self, v: Val)
-        requires { length self.old < 3 }
-        ensures { self.new ≡ self.old ++ v ∷ [] }
-    {
-        self.values[self.count as usize] = v;
-        self.count += 1;
+// The values that count, as a list.
+fn few_listed(
+    alloc: Global,
+    count: u8,
+    kinds: &[Kind; 3],
+    numbers: &[u64; 3],
+) -> Result<Vec<Val>, Memory>
+    requires { count ≤ 3 }
+    ensures { IfOk result (λ values. values.items ≡ values_of count kinds.now numbers.now) }
+{
+    let mut values = Vec::new(alloc);
+    for k in 0..count as usize {
+        let Ok(()) = values.push(value_in(kinds[k], numbers[k])) else {
+            return Err(Memory);
+        };
+    }
+    Ok(values)
+}
+
+// The values, wherever they stand, as a list.
+fn listed(alloc: Global, room: &Room) -> Result<Vec<Val>, Memory>
+    requires { AreFew room.now }
+    ensures { IfOk result (λ values. values.items ≡ values_in room.now) }
+{
+    match room {
+        Room::Here {
+            count,
+            kinds,
+            numbers,
+        } => few_listed(alloc, *count, kinds, numbers),
+        Room::Beside(values) => match Vec::from_slice(alloc, values.as_slice()) {
+            Ok(values) => Ok(values),
+            Err(_) => Err(Memory),
+        },
+    }
+}
+
+// The value at a place of those that count, where one stands.
+#[inline(always)]
+fn few_at(count: u8, kinds: &[Kind; 3], numbers: &[u64; 3], k: usize) -> Val
+    requires few { count ≤ 3 }
+    requires there { k < count }
+    ensures { slice_get (values_of count kinds.now numbers.now) k ≡ Some result }
+{
+    value_in(kinds[k], numbers[k])
+}
+
+// The value at a place of a list, where one stands.
+#[inline(always)]
+fn many_at(values: &[Val], k: usize) -> Val
+    requires { k < length values.now }
+    ensures { slice_get values.now k ≡ Some result }
+{
+    values[k]
+}
+
+// The value at a place of those that count.
+#[inline(always)]
+fn value_at(count: u8, kinds: &[Kind; 3], numbers: &[u64; 3], k: usize) -> Option<Val>
+    requires { count ≤ 3 }
+    ensures { result ≡ slice_get (values_of count kinds.now numbers.now) k }
+{
+    if k < count as usize {
+        Some(few_at(count, kinds, numbers, k))
+    } else {
+        None
     }
 }
 
 impl Model for Fields {
     ghost use Rattle.std.specs.Prelude.{List};
     ghost use Rattle.rg_base.specs.declared.value.Val.{Val};
-    ghost use Rattle.rg_cown.specs.Inner.Room.{values_in};
+    ghost use Rattle.rg_cown.specs.Inner.Room.{values_in, AreFew};
 
     ghost Value = { List Val };
 
     ghost view = { λ f. values_in f.room };
+
+    ghost invariant = { λ f. AreFew f.room };
 }
 
 impl Fields {
@@ -86,18 +211,27 @@ impl Fields {
     {
         Fields {
             alloc,
-            room: Room::Here(Few::new()),
+            room: Room::Here {
+                count: 0,
+                kinds: [Kind::Nil; 3],
+                numbers: [0; 3],
+            },
         }
     }
 
-    /// The values.
+    /// The first so many of three values.
     #[inline(always)]
-    pub fn as_slice(&self) -> &[Val]
-        ensures { result.now ≡ self.now }
+    pub fn few(alloc: Global, count: u8, a: Packed, b: Packed, c: Packed) -> Fields
+        requires { count ≤ 3 }
+        ensures { result ≡ take count (a ∷ b ∷ c ∷ []) }
     {
-        match &self.room {
-            Room::Here(few) => few.as_slice(),
-            Room::Beside(values) => values.as_slice(),
+        Fields {
+            alloc,
+            room: Room::Here {
+                count,
+                kinds: [a.kind, b.kind, c.kind],
+                numbers: [a.number, b.number, c.number],
+            },
         }
     }
 
@@ -106,7 +240,10 @@ impl Fields {
     pub fn len(&self) -> usize
         ensures { result ≡ length self.now }
     {
-        self.as_slice().len()
+        match &self.room {
+            Room::Here { count, .. } => *count as usize,
+            Room::Beside(values) => values.len(),
+        }
     }
 
     /// The value at a place, counted from 0; None past the last one.
@@ -114,7 +251,30 @@ impl Fields {
     pub fn get(&self, k: usize) -> Option<Val>
         ensures { result ≡ slice_get self.now k }
     {
-        self.as_slice().get(k).copied()
+        match &self.room {
+            Room::Here {
+                count,
+                kinds,
+                numbers,
+            } => value_at(*count, kinds, numbers, k),
+            Room::Beside(values) => values.get(k).copied(),
+        }
+    }
+
+    /// The value at a place where one stands.
+    #[inline(always)]
+    pub fn at(&self, k: usize) -> Val
+        requires { k < length self.now }
+        ensures { slice_get self.now k ≡ Some result }
+    {
+        match &self.room {
+            Room::Here {
+                count,
+                kinds,
+                numbers,
+            } => few_at(*count, kinds, numbers, k),
+            Room::Beside(values) => many_at(values.as_slice(), k),
+        }
     }
 
     /// Appends a value.
@@ -123,10 +283,14 @@ impl Fields {
         ensures ok { OnOk result (self.new ≡ self.old ++ v ∷ []) }
         ensures err { OnErr result (self.new ≡ self.old) }
     {
-        match &mut self.room {
-            Room::Here(few) => {
-                if few.as_slice().len() < 3 {
-                    few.push(v);
+        match &self.room {
+            Room::Here {
+                count,
+                kinds,
+                numbers,
+            } => {
+                if *count < 3 {
+                    self.room = and(*count, kinds, numbers, v);
                     return Ok(());
                 }
             }
@@ -142,20 +306,19 @@ impl Fields {
         ensures err { OnErr result (self.new ≡ self.old) }
     {
         match &mut self.room {
-            Room::Here(few) => {
-                let Ok(mut values) = Vec::from_slice(self.alloc, few.as_slice()) else {
-                    return Err(Memory);
+            Room::Here { .. } => {}
+            Room::Beside(values) => {
+                return match values.push(v) {
+                    Ok(()) => Ok(()),
+                    Err(_) => Err(Memory),
                 };
-                let Ok(()) = values.push(v) else {
-                    return Err(Memory);
-                };
-                self.room = Room::Beside(values);
-                Ok(())
             }
-            Room::Beside(values) => match values.push(v) {
-                Ok(()) => Ok(()),
-                Err(_) => Err(Memory),
-            },
         }
+        let mut values = listed(self.alloc, &self.room)?;
+        let Ok(()) = values.push(v) else {
+            return Err(Memory);
+        };
+        self.room = Room::Beside(values);
+        Ok(())
     }
 }

@@ -14,7 +14,7 @@ ghost use Rattle.rg_cown.specs.Cargo as cargo;
 ghost use Rattle.rg_typed.specs.Typed as typed;
 
 use rg_base::{ARRAY_SIZE, Cap, Label, Val};
-use rg_cown::CargoCell;
+use rg_cown::{CargoCell, Fields};
 use rg_names::{Book, tables_are_of_good_headers};
 use rg_tree::{MemberRow, TypeRow};
 
@@ -151,15 +151,15 @@ fn is_iso(ty: TypeRow) -> bool
 
 // The value at a place; None past the last one.
 #[inline(always)]
-fn value_at(values: &[Val], at: usize) -> Option<Val>
+fn value_at(values: &Fields, at: usize) -> Option<Val>
     ensures { result ≡ slice_get values.now at }
 {
-    values.get(at).copied()
+    values.get(at)
 }
 
 // How many values there are.
 #[inline(always)]
-fn count_of(values: &[Val]) -> usize
+fn count_of(values: &Fields) -> usize
     ensures { result ≡ length values.now }
 {
     values.len()
@@ -172,7 +172,7 @@ pub(crate) fn fields_fit(
     cells: &[CargoCell],
     own: Label,
     these: &[u32],
-    values: &[Val],
+    values: &Fields,
 ) -> bool
     requires { All (λ k. k < length book.now.program.members) these.now }
     ensures { let t = book.now.program in
@@ -206,7 +206,7 @@ pub(crate) fn elements_fit(
     cells: &[CargoCell],
     own: Label,
     element: TypeRow,
-    values: &[Val],
+    values: &Fields,
 ) -> bool
     requires { IsTypeIn book.now.program element }
     ensures { let t = book.now.program in let written = rows.type_of t element in
@@ -220,8 +220,9 @@ pub(crate) fn elements_fit(
     if values.len() > ARRAY_SIZE as usize {
         return false;
     }
-    for value in values {
-        if !value_fits(book, cells, own, element, *value) {
+    for k in 0..values.len() {
+        let value = values.at(k);
+        if !value_fits(book, cells, own, element, value) {
             return false;
         }
     }

@@ -32,7 +32,7 @@ fn values_fit(book: &Book, cells: &[CargoCell], class: ClassRow, cell: &CargoCel
         result ≡ typed.values_fit (rows.classes_of t) cells.now cell.now.label c c.element
         cell.now.fields }
 {
-    let values = cell.fields.as_slice();
+    let values = &cell.fields;
     match class.element {
         None => fields_fit(book, cells, cell.label, book.members_of(class), values),
         Some(element) => elements_fit(book, cells, cell.label, element, values),
@@ -104,7 +104,7 @@ fn known_fits(book: &Book, cells: &[CargoCell], these: Option<&[u32]>, cell: &Ca
     if is_temp(cell.label) {
         return false;
     }
-    fields_fit(book, cells, cell.label, these, cell.fields.as_slice())
+    fields_fit(book, cells, cell.label, these, &cell.fields)
 }
 
 /// Whether a content fits a program: `TypedCargo`. Each value is looked at once, and takes no
