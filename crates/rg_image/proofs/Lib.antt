@@ -3,6 +3,7 @@ mod Parts
 mod Whole
 mod Loops
 mod NumbersGiven
+mod Few
 mod Behind
 mod InOrder
 mod Alone

@@ -1,7 +1,8 @@
 -- Numbers that are given one behind the other, where the last one that was given is kept.
-use Rattle.std.proofs.Common.{◌≡◌, ℕ, suc, ◌+◌, true, List, [], ◌∷◌, drop}
+use Rattle.std.proofs.Common.{◌≡◌, ℕ, zero, suc, ◌+◌, ◌≤◌, true, List, [], ◌∷◌, length, drop}
 use Rattle.std.proofs.Common.{slice_get, Some, None, option_and_then, refl, sym, ap, subst, ◌∙◌}
 use Rattle.std.proofs.lemmas.Bool.{eqb-true}
+use Rattle.std.proofs.lemmas.List.{drop_all}
 use Rattle.rg_base.proofs.Callers.Lists.{drop-here}
 use Rattle.rg_base.specs.declared.object.Label.{Label}
 use Rattle.rg_base.specs.declared.object.Label.TheVariants.{Region, Temp, Frozen}
@@ -20,6 +21,22 @@ pub in-stops : (fields : List Val) (k last : ℕ) (v : Val) → slice_get fields
     → named_in (suc last) (drop k fields) ≡ None
 in-stops fields k last v there e =
     ap (named_in (suc last)) (drop-here fields k v there) ∙ ap (λ o. option_and_then (λ m. named_in m (drop (k + 1) fields)) o) e
+
+-- no value behind a place
+pub no-more : (fields : List Val) (k last : ℕ) → length fields ≤ k → Some (suc last) ≡ named_in (suc last) (drop k fields)
+no-more fields k last past = sym (ap (named_in (suc last)) (drop_all k fields past))
+
+-- no value at a place
+pub none-there : (fields : List Val) (k last : ℕ) → slice_get fields k ≡ None → Some (suc last) ≡ named_in (suc last) (drop k fields)
+none-there [] zero last e = refl
+none-there [] (suc k) last e = refl
+none-there (v ∷ fields) zero last e = absurd cc
+none-there (v ∷ fields) (suc k) last e = none-there fields k last e
+
+-- one value behind a place
+pub last-one : (fields : List Val) (k last next : ℕ) (v : Val) → length fields ≤ k + 1 → slice_get fields k ≡ Some v
+    → named_by (suc last) v ≡ Some (suc next) → Some (suc next) ≡ named_in (suc last) (drop k fields)
+last-one fields k last next v past there e = no-more fields (k + 1) next past ∙ sym (in-next fields k last next v there e)
 
 -- region 0 is numbered from the start, where the first object lies in it
 first_region : (l : Label) → is_in 0 (Some l) ≡ true → region_named 1 l ≡ region_named 0 l

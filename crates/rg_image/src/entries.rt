@@ -8,7 +8,7 @@ ghost use Rattle.rg_image.specs.Inner.Entries.{Adds, enters, are_right, region_i
 
 use crate::labels::label_of;
 use rg_base::{Label, Manager, Memory, Val};
-use rg_cown::CargoCell;
+use rg_cown::{CargoCell, Fields};
 use std::alloc::Global;
 
 // more than one is too many
@@ -73,11 +73,12 @@ fn count_value(cells: &[CargoCell], own: Label, value: Val, counts: &mut Vec<u8>
 
 // The entries that the fields of an object with a label are.
 #[inline(always)]
-fn count_fields(cells: &[CargoCell], own: Label, fields: &[Val], counts: &mut Vec<u8>)
+fn count_fields(cells: &[CargoCell], own: Label, fields: &Fields, counts: &mut Vec<u8>)
     ensures { Adds counts.old.items counts.new.items (λ r. entries_of cells.now r own fields.now) }
 {
-    for value in fields {
-        count_value(cells, own, *value, counts);
+    for k in 0..fields.len() {
+        let value = fields.at(k);
+        count_value(cells, own, value, counts);
     }
 }
 
@@ -87,7 +88,7 @@ fn count_all(cells: &[CargoCell], counts: &mut Vec<u8>)
     ensures { Adds counts.old.items counts.new.items (λ r. entries cells.now r) }
 {
     for cell in cells {
-        count_fields(cells, cell.label, cell.fields.as_slice(), counts);
+        count_fields(cells, cell.label, &cell.fields, counts);
     }
 }
 

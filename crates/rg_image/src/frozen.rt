@@ -6,7 +6,7 @@ ghost use Rattle.rg_cown.specs.Cargo as cargo;
 
 use crate::labels::{is_frozen, label_of};
 use rg_base::{Label, Val};
-use rg_cown::CargoCell;
+use rg_cown::{CargoCell, Fields};
 
 // Whether a value may stand in a frozen object.
 #[inline(always)]
@@ -20,11 +20,12 @@ fn stays_frozen(cells: &[CargoCell], value: Val) -> bool
 }
 
 // Whether values may stand in a frozen object.
-fn all_stay_frozen(cells: &[CargoCell], fields: &[Val]) -> bool
+fn all_stay_frozen(cells: &[CargoCell], fields: &Fields) -> bool
     ensures { result ≡ list_all (cargo.stays_frozen cells.now) fields.now }
 {
-    for value in fields {
-        if !stays_frozen(cells, *value) {
+    for k in 0..fields.len() {
+        let value = fields.at(k);
+        if !stays_frozen(cells, value) {
             return false;
         }
     }
@@ -33,7 +34,7 @@ fn all_stay_frozen(cells: &[CargoCell], fields: &[Val]) -> bool
 
 /// Whether the fields of an object may lead where they do, if it is frozen.
 #[inline(always)]
-pub(crate) fn frozen_fits(cells: &[CargoCell], own: Label, fields: &[Val]) -> bool
+pub(crate) fn frozen_fits(cells: &[CargoCell], own: Label, fields: &Fields) -> bool
     ensures { result ≡ cargo.frozen_fits cells.now own fields.now }
 {
     match own {

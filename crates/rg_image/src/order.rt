@@ -31,7 +31,7 @@ fn behind(cells: &[CargoCell], place: usize, last: Last, cell: &CargoCell) -> Op
     if place as u64 > last.object {
         return None;
     }
-    let fields = cell.fields.as_slice();
+    let fields = &cell.fields;
     let Some(object) = named_in(last.object, fields) else {
         return None;
     };

@@ -8,7 +8,7 @@ ghost use Rattle.rg_image.specs.Inner.Ranges.{RangedLabel, RangedCell, RangedCar
 ghost use Rattle.rg_image.specs.Inner.Ranges.{RangedContent};
 
 use rg_base::{ByteList, Label, Manager, Memory, Val};
-use rg_cown::{Cargo, CargoCell};
+use rg_cown::{Cargo, CargoCell, Fields};
 use rg_spell::{bool_number, write_i64, write_manager, write_u32, write_u64};
 
 // Appends a value.
@@ -46,13 +46,14 @@ fn write_label(label: Label, out: &mut ByteList) -> Result<(), Memory>
 }
 
 // Appends a count of values, and the values.
-fn write_values(values: &[Val], out: &mut ByteList) -> Result<(), Memory>
+fn write_values(values: &Fields, out: &mut ByteList) -> Result<(), Memory>
     ensures text { OnOk result (out.new ≡ out.old ++ counted value_bytes values.now) }
     ensures ranges { OnOk result (Counted FitsValue values.now) }
 {
     write_u64(values.len() as u64, out)?;
-    for value in values {
-        write_value(*value, out)?;
+    for k in 0..values.len() {
+        let value = values.at(k);
+        write_value(value, out)?;
     }
     Ok(())
 }
@@ -64,7 +65,7 @@ fn write_cell(cell: &CargoCell, out: &mut ByteList) -> Result<(), Memory>
 {
     write_u32(cell.class, out)?;
     write_label(cell.label, out)?;
-    write_values(cell.fields.as_slice(), out)?;
+    write_values(&cell.fields, out)?;
     Ok(())
 }
 

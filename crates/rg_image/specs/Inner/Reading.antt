@@ -71,6 +71,12 @@ cell_at bytes = do
   fields ← counted_at value_at label.1
   Some (record { class = class.0; label = label.0; fields = fields.0 }, fields.1)
 
+-- an object of a class and with a label, with the values that are read
+abbrev pub with_values : ℕ → Label → Option (List Val × List ℕ) → Option (CargoCell × List ℕ)
+with_values class label read = do
+  fields ← read
+  Some (record { class = class; label = label; fields = fields.0 }, fields.1)
+
 -- a part behind others that were read
 abbrev pub behind : {A : Type 0} → List A → Option (A × List ℕ) → Option (List A × List ℕ)
 behind others None = None

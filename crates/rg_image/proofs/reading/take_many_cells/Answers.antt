@@ -16,9 +16,9 @@ pub loop-preserved : goal.loop-preserved
 loop-preserved c =
     let total = many_at cell_at c.args.count c.args.bytes.now in
     record {
-      read = goes_behind cell_at c.loop.cargo.cells c.take_cell.new.cargo.cells c.args.count c.loop.counter c.loop.rest.now c.in-Ok-take_cell.after.now total
-          c.loop-test.true c.in-Ok-take_cell.ensures.read c.loop.invariant.read;
-      managers = c.take_cell.ensures.managers ∙ c.loop.invariant.managers;
+      read = goes_behind cell_at c.loop.cargo.cells c.take_next_cell.new.cargo.cells c.args.count c.loop.counter c.loop.rest.now c.in-Ok-take_next_cell.after.now total
+          c.loop-test.true c.in-Ok-take_next_cell.ensures.read c.loop.invariant.read;
+      managers = c.take_next_cell.ensures.managers ∙ c.loop.invariant.managers;
     }
 
 pub returns-clause-read : goal.returns-clause-read

@@ -4,8 +4,8 @@ use Rattle.rg_spell.specs.Spelling.{eight}
 use Rattle.rg_image.specs.ImageText.{value_bytes, FitsValue}
 use Rattle.rg_image.proofs.writing.write_values.Given as goal
 
-abbrev pub invariant-loop-value : goal.invariant-loop-value
-invariant-loop-value l = record {
-  text : l.out ≡ l.fn.out ++ (eight (length l.values) ++ flat_map value_bytes (take l.value-index l.values));
-  ranges : AllByRecursion FitsValue (drop l.value-index l.values) → AllByRecursion FitsValue l.values;
+abbrev pub invariant-loop-k : goal.invariant-loop-k
+invariant-loop-k l = record {
+  text : l.out ≡ l.fn.out ++ (eight (length l.values) ++ flat_map value_bytes (take l.k l.values));
+  ranges : AllByRecursion FitsValue (drop l.k l.values) → AllByRecursion FitsValue l.values;
 }
