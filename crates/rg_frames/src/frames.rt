@@ -1,6 +1,6 @@
 //! Frames, windows and temporaries (docs/architecture.md, "Frames").
 
-ghost use Rattle.std.specs.Prelude.{◌≡◌, ◌≤◌, ◌+◌, ◌-◌, ◌<◌, ◌^◌, ◌++◌, ◌↔◌, None, Some, Ok, Err, slice_set};
+ghost use Rattle.std.specs.Prelude.{◌≡◌, ◌≤◌, ◌+◌, ◌-◌, ◌<◌, ◌^◌, ◌++◌, ◌∷◌, ◌↔◌, None, Some, Ok, Err, slice_set};
 ghost use Rattle.std.specs.Prelude.{IfSome, IsNone, OnOk, OnErr, slice_index_or, length, drop, take, replicate};
 ghost use Rattle.std.specs.Prelude.{slice_get, slice_set, unwrap_or, vec_len, vec_capacity};
 ghost use Rattle.std.specs.Prelude.{true, ℕ, List};
@@ -165,6 +165,46 @@ impl Frames {
         self.first = first;
         self.live = first + words.len();
         self.top = first + words.len() + more;
+    }
+
+    /// A frame of this word and so many slots more, all nil, for which there is room.
+    #[inline(always)]
+    pub fn push_one(&mut self, back: usize, w: Word, more: usize)
+        requires { HasRoom self.old (1 + more) }
+        ensures { self.new ≡ pushed_of self.old back (w ∷ replicate more Nil) }
+    {
+        let first = self.top;
+        copy_one(&mut self.slots, first, w);
+        self.rows.push_reserved(Row {
+            frame: Frame {
+                back,
+                below: self.first,
+            },
+            live: self.live,
+        });
+        self.first = first;
+        self.live = first + 1;
+        self.top = first + 1 + more;
+    }
+
+    /// A frame of these two words and so many slots more, all nil, for which there is room.
+    #[inline(always)]
+    pub fn push_two(&mut self, back: usize, w: Word, x: Word, more: usize)
+        requires { HasRoom self.old (2 + more) }
+        ensures { self.new ≡ pushed_of self.old back (w ∷ x ∷ replicate more Nil) }
+    {
+        let first = self.top;
+        copy_two(&mut self.slots, first, w, x);
+        self.rows.push_reserved(Row {
+            frame: Frame {
+                back,
+                below: self.first,
+            },
+            live: self.live,
+        });
+        self.first = first;
+        self.live = first + 2;
+        self.top = first + 2 + more;
     }
 
     /// A frame of so many slots, all nil, for which there is room.
@@ -412,6 +452,14 @@ impl Frames {
         &self.slots[self.windows[self.windows.len() - 1].base..self.top]
     }
 
+    /// The slots of the top frame.
+    #[inline(always)]
+    pub fn top_words(&self) -> &[Word]
+        ensures { result.now ≡ drop self.now.first self.now.slots }
+    {
+        &self.slots[self.first..self.top]
+    }
+
     /// Writes the k-th of the words that `slots` shows.
     pub fn set_shown(&mut self, k: usize, w: Word)
         requires { IsShown self.old k }
@@ -630,6 +678,29 @@ fn copy(all: &mut Vec<Word>, at: usize, words: &[Word])
     }
 }
 
+// Writes a word at a place.
+#[inline(always)]
+fn copy_one(all: &mut Vec<Word>, at: usize, w: Word)
+    requires { at + 1 ≤ length all.old.items }
+    ensures items { all.new.items
+        ≡ take at all.old.items ++ (w ∷ drop (at + 1) all.old.items) }
+    ensures capacity { vec_capacity all.new ≡ vec_capacity all.old }
+{
+    all[at] = w;
+}
+
+// Writes two words from a place on.
+#[inline(always)]
+fn copy_two(all: &mut Vec<Word>, at: usize, w: Word, x: Word)
+    requires { at + 2 ≤ length all.old.items }
+    ensures items { all.new.items
+        ≡ take at all.old.items ++ (w ∷ x ∷ drop (at + 2) all.old.items) }
+    ensures capacity { vec_capacity all.new ≡ vec_capacity all.old }
+{
+    all[at] = w;
+    all[at + 1] = x;
+}
+
 // Copies so many words from a place on to the first of others.
 #[inline]
 fn fetch(all: &Vec<Word>, at: usize, words: &mut [Word], many: usize)
@@ -680,16 +751,50 @@ fn later(a: usize, b: usize) -> usize
 }
 
 // Makes nil the slots from one place up to another, from which on they are nil.
+#[inline(always)]
 fn clear(all: &mut Vec<Word>, from: usize, to: usize)
     requires { NilFrom all.old.items to (length all.old.items) }
     ensures items { all.new.items
         ≡ take from all.old.items ++ replicate (length all.old.items - from) Nil }
     ensures capacity { vec_capacity all.new ≡ vec_capacity all.old }
 {
-    let mut at = to;
-    'clear: while at > from {
+    if from < to {
+        let part = &mut all[from..to];
+        make_nil(part);
+    }
+}
+
+// Makes all words nil, of which there are some, up to three of them by hand.
+#[inline(always)]
+fn make_nil(part: &mut [Word])
+    requires { 0 < length part.old }
+    ensures { part.new ≡ replicate (length part.old) Nil }
+{
+    let many = part.len();
+    if many > 3 {
+        make_all_nil(part);
+        return;
+    }
+    part[0] = Word::Nil;
+    if many < 2 {
+        return;
+    }
+    part[1] = Word::Nil;
+    if many < 3 {
+        return;
+    }
+    part[2] = Word::Nil;
+}
+
+// The same, however many there are.
+#[inline(never)]
+fn make_all_nil(part: &mut [Word])
+    ensures { part.new ≡ replicate (length part.old) Nil }
+{
+    let mut at = part.len();
+    'nil: while at > 0 {
         at -= 1;
-        all[at] = Word::Nil;
+        part[at] = Word::Nil;
     }
 }
 
