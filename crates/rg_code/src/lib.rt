@@ -11,6 +11,7 @@ mod code;
 mod computes;
 mod dues;
 mod elements;
+mod fields;
 mod headings;
 mod instructions;
 mod loops;
@@ -21,6 +22,7 @@ mod shapes;
 mod sums;
 mod texts;
 mod whole;
+mod windows;
 
 pub use code::{CodeList, Entry, shape_among};
 pub use op::Op;
