@@ -2,3 +2,4 @@
 pub mod Top
 pub mod Frames
 pub mod Gone
+pub mod Home

@@ -4,3 +4,4 @@ mod Slots
 pub mod Nil
 pub mod Emptied
 pub mod Home
+pub mod Nothing

@@ -18,8 +18,9 @@ mod variables;
 pub use instructions::act;
 pub use machine::Machine;
 pub use machine::over::{
-    WORDS, element_among, end_among, get_among, give_words, int_among, put_among, put_int_among,
-    store_among, take_words, word_among,
+    copy_among, element_among, end_among, get_among, give_words, int_among, put_among,
+    put_int_among, store_among, take_words, word_among,
 };
 pub use next::Next;
+pub use rg_beside::Words;
 pub use scalars::{leads_nowhere, truth};

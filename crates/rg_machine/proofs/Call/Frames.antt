@@ -181,6 +181,15 @@ pub all-nil : (p : Parts) (v : Stack) (s : ℕ) (words : List Word) → AllLead 
 all-nil p v s words l k w e =
     leads-restacked p v (slice_set v.slots (v.first + s) Nil) v.first v.frames v.frame_room v.slot_room w (l k w e)
 
+-- one word, and two
+pub one-leads : (p : Parts) (v : Stack) (w : Word) → Leads p v w → AllLead p v (w ∷ [])
+one-leads p v w l zero x e = subst (Leads p v) (same_Some w x e) l
+one-leads p v w l (suc k) x e = absurd (none-some x e)
+
+pub two-leads : (p : Parts) (v : Stack) (w x : Word) → Leads p v w → Leads p v x → AllLead p v (w ∷ x ∷ [])
+two-leads p v w x l m zero y e = subst (Leads p v) (same_Some w y e) l
+two-leads p v w x l m (suc k) y e = one-leads p v x m k y e
+
 -- the words of the frame of a call lead where those of the stack do
 pub all-called : (p : Parts) (v : Stack) (given slots : ℕ) (stack : List Word) → AllLead p v stack → AllLead p v (called_words given slots stack)
 all-called p v given slots stack l k w e =

@@ -61,6 +61,9 @@ may-other vs [] ws = refl
 may-other vs (f ∷ []) ws = refl
 may-other vs (f ∷ g ∷ fs) ws = refl
 
+pub may-ending : (c : Core) → may_go (ending c 0).machine ≡ may_go c.machine
+may-ending c = may-other (ended_slots 0 (top_slots c.machine.frames)) c.machine.frames c.machine.windows
+
 stuck-by : (w : Work) (fs : List Frame) (stack : List Val) → may_return fs w.machine.windows ≡ false → returned w fs stack ≡ Stuck
 stuck-by w [] stack e = refl
 stuck-by w (f ∷ []) stack e = refl
@@ -105,6 +108,15 @@ pub went-back : (old mid new : Core) (back : ℕ) → SameBacks old.machine mid.
 went-back old mid new back same went =
     same-back old.machine.frames mid.machine.frames back same
     (subst (λ (fs : List Frame). GoesBack fs back) (sym went.were) went.back_is)
+
+-- so does one whose slots ended first
+backs-with : (vs : List Val) (fs : List Frame) → backs (with_slots vs fs) ≡ backs fs
+backs-with vs [] = refl
+backs-with vs (f ∷ fs) = refl
+
+pub went-ending : (old new : Core) (back : ℕ) → Went (ending old 0) new back → GoesBack old.machine.frames back
+went-ending old new back went =
+    went-back old (ending old 0) new back (backs-with (ended_slots 0 (top_slots old.machine.frames)) old.machine.frames) went
 
 -- Effects
 

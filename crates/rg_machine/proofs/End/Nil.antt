@@ -70,7 +70,7 @@ ended-back [] (suc i) n j x e = absurd (none-nil n j x e)
 ended-back (y ∷ xs) (suc i) n zero x e = e
 ended-back (y ∷ xs) (suc i) n (suc j) x e = ended-back xs i n j x e
 
-ended-length : (xs : List Word) (i : ℕ) → length (take i xs ++ replicate (length xs - i) Nil) ≡ length xs
+pub ended-length : (xs : List Word) (i : ℕ) → length (take i xs ++ replicate (length xs - i) Nil) ≡ length xs
 ended-length xs zero = length-replicate (length xs - 0) Nil ∙ omega arith
 ended-length [] (suc i) = let e : 0 - suc i ≡ 0 = omega arith in ap (λ n. length (replicate n Nil)) e
 ended-length (y ∷ xs) (suc i) =

@@ -1,5 +1,5 @@
 -- A window on the region that a field owns.
-use Rattle.std.proofs.Common.{◌≡◌, ◌<◌, ℕ, ◌-◌, ◌&&◌, not, nat_lt, Bool as Truth, true, List, [], ◌∷◌, ◌++◌, Option, Some, Ok, Err}
+use Rattle.std.proofs.Common.{◌≡◌, ◌<◌, ℕ, ◌-◌, ◌&&◌, not, nat_lt, Bool as Truth, true, false, if◌then◌else◌, List, [], ◌∷◌, ◌++◌, Option, Some, Ok, Err}
 use Rattle.std.proofs.Common.{length, slice_get, option_map, refl, sym, ap, ◌∙◌, subst, arith}
 use Rattle.std.proofs.lemmas.Option.{same_Some}
 use Rattle.std.proofs.lemmas.Bool.{and_parts, eqb-true as eq-true}
@@ -26,7 +26,7 @@ use Rattle.rg_heap.specs.Parts.{Parts}
 use Rattle.rg_heap.specs.Answers.{val_of}
 use Rattle.rg_stack.specs.Machine.{slot_at, place_of, top_slots}
 use Rattle.rg_stack.specs.Needs.{is_closed, is_empty, is_field, is_writable, field_of, of_object, of_top, owned_once, owns_or_nil}
-use Rattle.rg_stack.specs.Effects.{Go, Traps, Walked, address, begins_by, entered, on_object, on_top, top_region}
+use Rattle.rg_stack.specs.Effects.{Go, Stuck, Traps, Walked, address, begins_by, entered, on_object, on_top, top_region}
 use Rattle.rg_held.specs.Frees.{free_act}
 use Rattle.rg_held.proofs.Lists.{append-left as got-there}
 use Rattle.rg_view.specs.View.{machine_of, object_of, store_of, values_of, windows_of}
@@ -36,11 +36,12 @@ use Rattle.rg_view.proofs.Callers.Held.{all-lead}
 use Rattle.rg_view.proofs.Callers.Need.{top, closed-other}
 use Rattle.rg_view.proofs.Callers.Once.{outside-once}
 use Rattle.rg_view.proofs.Callers.Read.{field-there, field-within, object-tested, object-there, pushed-value}
-use Rattle.rg_machine.specs.Core.{Has, work_of}
+use Rattle.rg_machine.specs.Core.{Core, Has, work_of}
 use Rattle.rg_machine.specs.Frames.{can_open}
-use Rattle.rg_machine.specs.Parts.{Parts as Whole}
+use Rattle.rg_machine.specs.Parts.{Parts as Whole, with_word}
 use Rattle.rg_machine.specs.Cores.{core_of}
-use Rattle.rg_machine.specs.Stands.{AllLead, Stands}
+use Rattle.rg_machine.specs.Stands.{AllLead, Leads, Stands}
+use Rattle.rg_machine.proofs.Callers.Word.{leads-push}
 use Rattle.rg_machine.proofs.Enter.Slot.{ParentBeneath, Entered, entered-by, entered_stack, machine-entered, opens-both}
 use Rattle.rg_machine.proofs.Enter.Slot.{opens-within}
 
@@ -199,3 +200,24 @@ pub holds-of : (m old : Whole) (h : Stands m.heap m.frames) (q : Serials m.heap.
 holds-of m old h q g holder k z rest w view lead words is given =
     holds m.heap m.frames m.at h q g holder k z m.words rest m.printed lead (words ∙ ap (λ w. rest ++ w ∷ []) is)
     (subst (λ (m : Whole). Has (i.EnterField k z) (core_of m)) (sym view) given)
+
+-- the same, where the word isn't on the stack yet
+pub holds-beside : (m old : Whole) (h : Stands m.heap m.frames) (q : Serials m.heap.cells.heap) (g : Grove m.heap.cells m.heap.regions)
+    (holder k z : ℕ) (w : Word) → m ≡ old → AllLead m.heap m.frames m.words → Leads old.heap old.frames w → w ≡ Slot holder
+    → Has (i.EnterField k z) (core_of (with_word old w)) → Holds m.heap m.frames m.at h q g holder k z
+holds-beside m old h q g holder k z w view lead leads is given =
+    let here = subst (λ (p : Whole). Leads p.heap p.frames w) (sym view) leads in
+    holds-of (with_word m w) (with_word old w) h q g holder k z m.words w (ap (λ (p : Whole). with_word p w) view)
+    (leads-push m.heap m.frames m.words w lead here) refl is given
+
+-- where nothing is on the stack, code doesn't lead here
+no-top : (a b : Truth) → (if a then (if b then Stuck else Stuck) else Stuck) ≡ Stuck
+no-top true true = refl
+no-top true false = refl
+no-top false b = refl
+
+pub enter-field-none : (c : Core) (k z code_at : ℕ) → c.stack ≡ [] → (go : Go) (input : List ℕ)
+    → free_act empty code_at (i.EnterField k z) go c.stack (work_of c input) ≡ Stuck
+enter-field-none c k z code_at none go input =
+    ap (λ vs. free_act empty code_at (i.EnterField k z) go vs (work_of c input)) none
+    ∙ no-top (nat_lt z (length (top_slots c.machine.frames))) (begins_by c.machine.windows (place_of c.machine.frames z))

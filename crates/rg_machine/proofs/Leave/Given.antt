@@ -27,7 +27,8 @@ use Rattle.rg_machine.proofs.Release.Fewer.{fewer-ended, fewer-once, fewer-witho
 use Rattle.rg_machine.proofs.Leave.Behind.{left}
 use Rattle.rg_machine.proofs.Leave.Heap.{may-leave, number}
 use Rattle.rg_machine.proofs.Leave.Effect.{ends-none}
-use Rattle.rg_machine.proofs.Leave.Whole.{empty-words, whole-effect, whole-stands}
+use Rattle.rg_machine.proofs.Callers.Word.{empty-words}
+use Rattle.rg_machine.proofs.Leave.Whole.{whole-effect, whole-stands}
 
 -- nothing is on the stack, and each closed region is owned once
 leave-front : (c : Core) (s : ℕ) → Has (i.Leave s) c → (is_empty c.stack ≡ true) × (owned_once c.machine ≡ true)

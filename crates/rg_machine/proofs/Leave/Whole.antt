@@ -1,8 +1,7 @@
 -- The effect of a window's end, where what its slots own has gone in front of it.
-use Rattle.std.proofs.Common.{◌≡◌, ◌≢◌, ◌≤◌, ◌<◌, zero, suc, drop, replicate, slice_get, ◌-◌, ◌^◌, ◌&&◌, ℕ, true, List, [], ◌∷◌, length, reverse}
+use Rattle.std.proofs.Common.{◌≡◌, ◌≢◌, ◌≤◌, ◌<◌, zero, suc, drop, replicate, slice_get, ◌-◌, ◌^◌, ◌&&◌, ℕ, true, List, [], ◌∷◌, length}
 use Rattle.std.proofs.Common.{nat_le, Some, refl, sym, ap}
 use Rattle.std.proofs.Common.{◌∙◌, subst, arith}
-use Rattle.std.proofs.lemmas.List.{length-map, length-reverse}
 use Rattle.std.proofs.lemmas.Bool.{and_parts, leb-true as le-back}
 use Rattle.rg_base.specs.declared.value.Word.{Word}
 use Rattle.rg_base.specs.declared.value.Word.TheVariants.{Slot}
@@ -15,7 +14,6 @@ use Rattle.rg_regions.specs.Grove.{Grove}
 use Rattle.rg_frames.specs.declared.rows.Window.{Window as WindowRow}
 use Rattle.rg_frames.specs.Stack.{IsTop, MarksLie}
 use Rattle.rg_heap.specs.Ends.{GoesAlong, IsTopTemp, Released}
-use Rattle.rg_heap.specs.Answers.{val_of}
 use Rattle.rg_stack.specs.Machine.{Frame, Machine, end_slots, ended_slots, place_of, top_slots, with_slots}
 use Rattle.rg_stack.specs.Effects.{Go, beneath_by_labels, left as left_in}
 use Rattle.rg_stack.specs.Needs.{is_empty, owned_once, owner_leads, temps_may_go, top_base}
@@ -31,16 +29,11 @@ use Rattle.rg_machine.specs.Effects.{ending}
 use Rattle.rg_machine.specs.Parts.{Parts, machine_in}
 use Rattle.rg_machine.specs.Cores.{core_of}
 use Rattle.rg_machine.specs.Stands.{Stands}
+use Rattle.rg_machine.proofs.Callers.Word.{empty-words}
 use Rattle.rg_machine.proofs.Leave.Behind.{left}
 use Rattle.rg_machine.proofs.Leave.Heap.{behind-left, ends-behind, late, machine-left, number}
 use Rattle.rg_machine.proofs.Leave.Effect.{ends-window, left_by, left-machine}
 use Rattle.rg_machine.proofs.Leave.Free.{slots-free, fields-free}
-
--- a stack that shows no value has no word
-pub empty-words : (h : Heap) (words : List Word) → length (values_of h words) ≡ 0 → words ≡ []
-empty-words h [] e = refl
-empty-words h (w ∷ ws) e =
-    absurd (omega (arith, e, length-map (reverse (w ∷ ws)) (val_of h), length-reverse (w ∷ ws)))
 
 -- where slots of the topmost frame have ended
 top-ended : (fs : List Frame) (s : ℕ) → top_slots (with_slots (ended_slots s (top_slots fs)) fs) ≡ ended_slots s (top_slots fs)

@@ -1,14 +1,17 @@
 //! Windows that open and close (docs/architecture.md, "The machine").
 
-ghost use Rattle.std.specs.Prelude.{◌≡◌, ◌<◌, IfSome, None, false, length, true};
+ghost use Rattle.std.specs.Prelude.{◌≡◌, ◌<◌, ◌⊎◌, IfSome, None, false, length, true};
+ghost use Rattle.rg_base.specs.declared.value.Word.{Word as WordOf};
 ghost use Rattle.rg_frames.specs.Stack.{BaseUpTo};
 ghost use Rattle.rg_machine.specs.Acts.{Does};
 ghost use Rattle.rg_machine.specs.Frames.{can_open};
-ghost use Rattle.rg_stack.specs.Machine.{place_of};
+ghost use Rattle.rg_stack.specs.Machine.{place_of, slot_at};
 ghost use Rattle.rg_code.specs.declared.op.Op.TheVariants as i;
-ghost use Rattle.rg_machine.specs.Core.{Has};
-ghost use Rattle.rg_machine.specs.Parts.{machine_in};
+ghost use Rattle.rg_machine.specs.declared.next.Next.TheVariants as next;
+ghost use Rattle.rg_machine.specs.Core.{Has, with_top};
+ghost use Rattle.rg_machine.specs.Parts.{machine_in, val_in, with_word};
 ghost use Rattle.rg_machine.specs.Cores.{core_of};
+ghost use Rattle.rg_machine.specs.Stands.{Leads};
 
 use super::Machine;
 use crate::next::Next;
@@ -33,10 +36,13 @@ impl Machine {
         }
     }
 
-    /// `enter s z`
+    /// `enter s z`. Where no window is opened, all is left.
     pub fn enter(&mut self, s: u32, z: u32) -> Next
         requires given { Has (i.Enter s z) (core_of self.old) }
-        ensures { Does (i.Enter s z) self.old self.new result }
+        ensures does { Does (i.Enter s z) self.old self.new result }
+        ensures stays { (result ≡ next.On) ⊎ (self.new ≡ self.old) }
+        ensures words { self.new.words ≡ self.old.words }
+        ensures printed { self.new.printed ≡ self.old.printed }
     {
         let Some(base) = self.base_at(z) else {
             return Next::Lost;
@@ -57,18 +63,19 @@ impl Machine {
         Next::On
     }
 
-    /// `enterf k z`
-    pub fn enter_field(&mut self, index: u32, z: u32) -> Next
-        requires given { Has (i.EnterField index z) (core_of self.old) }
-        ensures { Does (i.EnterField index z) self.old self.new result }
+    /// `enterf k z`, of the object to which a word leads. Where no window is opened, all is left.
+    fn enter_from(&mut self, r: Word, index: u32, z: u32) -> Next
+        requires leads { Leads self.old.heap self.old.frames r }
+        requires given { Has (i.EnterField index z) (core_of (with_word self.old r)) }
+        ensures does { Does (i.EnterField index z) (with_word self.old r) self.new result }
+        ensures stays { (result ≡ next.On) ⊎ (self.new ≡ self.old) }
+        ensures words { self.new.words ≡ self.old.words }
+        ensures printed { self.new.printed ≡ self.old.printed }
     {
         let Some(base) = self.base_at(z) else {
             return Next::Lost;
         };
         self.heap.is_forest();
-        let Some(r) = self.stack.pop() else {
-            return Next::Lost;
-        };
         let Word::Slot(holder) = r else {
             return Next::Trap(Trap::Nil);
         };
@@ -89,10 +96,55 @@ impl Machine {
         Next::On
     }
 
-    /// `leave s`
-    pub fn leave(&mut self, s: u32) -> Next
+    /// `enterf k z`
+    pub fn enter_field(&mut self, index: u32, z: u32) -> Next
+        requires given { Has (i.EnterField index z) (core_of self.old) }
+        ensures { Does (i.EnterField index z) self.old self.new result }
+    {
+        let Some(r) = self.pop() else {
+            return Next::Lost;
+        };
+        self.enter_from(r, index, z)
+    }
+
+    /// `enter s z`, where it opens a window; answers whether it does.
+    pub fn open_slot(&mut self, s: u8, z: u8) -> bool
+        requires given { Has (i.Enter s z) (core_of self.old) }
+        ensures opens { result ≡ true → Does (i.Enter s z) self.old self.new next.On }
+        ensures stays { result ≡ false → self.new ≡ self.old }
+        ensures words { self.new.words ≡ self.old.words }
+        ensures printed { self.new.printed ≡ self.old.printed }
+    {
+        let Next::On = self.enter(u32::from(s), u32::from(z)) else {
+            return false;
+        };
+        true
+    }
+
+    /// `load r`, `enterf k z`, where it opens a window; answers whether it does.
+    pub fn open_field(&mut self, r: u8, index: u32, z: u8) -> bool
+        requires given { Has (i.EnterField index z)
+            (with_top (core_of self.old) (slot_at (machine_in self.old) r)) }
+        ensures opens { result ≡ true → (w : WordOf)
+            × (val_in self.old w ≡ slot_at (machine_in self.old) r)
+            × Does (i.EnterField index z) (with_word self.old w) self.new next.On }
+        ensures stays { result ≡ false → self.new ≡ self.old }
+        ensures words { self.new.words ≡ self.old.words }
+        ensures printed { self.new.printed ≡ self.old.printed }
+    {
+        let w = self.near(r);
+        let Next::On = self.enter_from(w, index, u32::from(z)) else {
+            return false;
+        };
+        true
+    }
+
+    /// `leave s`, which never fails.
+    pub fn close(&mut self, s: u32)
         requires given { Has (i.Leave s) (core_of self.old) }
-        ensures { Does (i.Leave s) self.old self.new result }
+        ensures does { Does (i.Leave s) self.old self.new next.On }
+        ensures words { self.new.words ≡ self.old.words }
+        ensures printed { self.new.printed ≡ self.old.printed }
     {
         self.heap.is_forest();
         self.end_from(s);
@@ -103,6 +155,14 @@ impl Machine {
             self.heap.leave(&mut self.frames);
             self.heap.is_forest();
         }
+    }
+
+    /// `leave s`
+    pub fn leave(&mut self, s: u32) -> Next
+        requires given { Has (i.Leave s) (core_of self.old) }
+        ensures { Does (i.Leave s) self.old self.new result }
+    {
+        self.close(s);
         Next::On
     }
 }

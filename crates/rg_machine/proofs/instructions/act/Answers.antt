@@ -114,7 +114,7 @@ returns-in-RetVoid c =
     let p = c.ret_void.ensures in rw c.in-RetVoid.is (record { effect = p.effect c.args.at; keeps = p.keeps; high = p.high })
 
 pub returns-in-Enter : goal.returns-in-Enter
-returns-in-Enter c = rw c.in-Enter.is (c.enter.ensures c.args.at)
+returns-in-Enter c = rw c.in-Enter.is (c.enter.ensures.does c.args.at)
 
 pub returns-in-EnterField : goal.returns-in-EnterField
 returns-in-EnterField c = rw c.in-EnterField.is (c.enter_field.ensures c.args.at)

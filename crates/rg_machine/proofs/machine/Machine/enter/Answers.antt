@@ -1,4 +1,4 @@
-use Rattle.std.proofs.Common.{◌≡◌, ◌+◌, refl, true, ◌∙◌, sym, ap, subst}
+use Rattle.std.proofs.Common.{inl, inr, ◌≡◌, ◌+◌, refl, true, ◌∙◌, sym, ap, subst}
 use Rattle.rg_base.specs.declared.object.Place.{Place}
 use Rattle.rg_base.specs.declared.object.Place.TheVariants as place
 use Rattle.rg_code.specs.Code.{empty}
@@ -89,8 +89,8 @@ new-is c b =
     ∙ ap (λ (p : HeapParts). record { heap = p; frames = c.set_word.new.self; words = m.stack.items; at = m.at; printed = m.printed })
     (sym c.enter.ensures.same)
 
-pub returns : goal.returns
-returns c at =
+pub returns-clause-does : goal.returns-clause-does
+returns-clause-does c at =
     let m = c.self.inside in
     let b = slot-entered c in
     let e = b.x.entered in
@@ -111,8 +111,8 @@ returns c at =
       high = rw (← c.self.view_is) (none-same m.heap c.enter.new.self c.enter.ensures.same);
     }
 
-pub returns-in_default-bridge : goal.returns-in_default-bridge
-returns-in_default-bridge c at =
+pub returns-in_default-bridge-clause-does : goal.returns-in_default-bridge-clause-does
+returns-in_default-bridge-clause-does c at =
     let m = c.self.inside in
     let none = no-object m.heap.cells.heap c.word-bridge.result c.in_default-bridge.not-Slot in
     let opens = subst (λ (m : Parts). can_open (machine_in m) c.args.z ≡ true) (sym c.self.view_is) c.in-Some.ensures.some.0 in
@@ -124,3 +124,35 @@ returns-in_default-bridge c at =
       keeps = refl;
       high = record { made = refl; high = refl };
     }
+
+-- where none is opened, all is left
+
+pub returns-clause-stays : goal.returns-clause-stays
+returns-clause-stays c = inl refl
+
+pub returns-in_default-clause-stays : goal.returns-in_default-clause-stays
+returns-in_default-clause-stays c = inr refl
+
+pub returns-in_default-bridge-clause-stays : goal.returns-in_default-bridge-clause-stays
+returns-in_default-bridge-clause-stays c = inr refl
+
+pub returns-in_default-enter-clause-stays : goal.returns-in_default-enter-clause-stays
+returns-in_default-enter-clause-stays c =
+    let m = c.self.inside in
+    inr
+    (ap (λ (p : HeapParts). record (the_view m) { heap = p; frames = c.enter.new.frames }) c.enter.ensures.same
+    ∙ ap (λ (v : Stack). record (the_view m) { frames = v }) c.in_default-enter.ensures.err ∙ c.self.view_is)
+
+-- what is beside heap and frames stays
+
+pub returns-clause-words : goal.returns-clause-words
+returns-clause-words c = ap (λ (p : Parts). p.words) c.self.view_is
+
+pub returns-clause-printed : goal.returns-clause-printed
+returns-clause-printed c = ap (λ (p : Parts). p.printed) c.self.view_is
+
+pub returns-in_default-enter-clause-words : goal.returns-in_default-enter-clause-words
+returns-in_default-enter-clause-words c = ap (λ (p : Parts). p.words) c.self.view_is
+
+pub returns-in_default-enter-clause-printed : goal.returns-in_default-enter-clause-printed
+returns-in_default-enter-clause-printed c = ap (λ (p : Parts). p.printed) c.self.view_is

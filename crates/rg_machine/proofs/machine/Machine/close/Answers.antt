@@ -12,7 +12,7 @@ use Rattle.rg_machine.specs.Stands.{Stands}
 use Rattle.rg_machine.specs.contracts.machine.Machine.{the_view}
 use Rattle.rg_machine.proofs.Leave.Given.{backs-same, leave-alone, leave-words, mid-effect, mid-ended, mid-given, mid-may-leave, mid-stands}
 use Rattle.rg_machine.proofs.Callers.High.{none-released, none-then}
-use Rattle.rg_machine.proofs.machine.Machine.leave.Goals as goal
+use Rattle.rg_machine.proofs.machine.Machine.close.Goals as goal
 use Rattle.rg_machine.proofs.Collect.Effect.{none-lead}
 
 pub leave-requires-clause-temps : goal.leave-requires-clause-temps
@@ -37,8 +37,8 @@ invariant_of-self c =
       none-lead c.leave.new.self c.leave.new.frames mid.words (words ∙ leave-words p c.args.s given),
     )
 
-pub returns-then-open_count-ge2 : goal.returns-then-open_count-ge2
-returns-then-open_count-ge2 c at =
+pub returns-then-open_count-ge2-clause-does : goal.returns-then-open_count-ge2-clause-does
+returns-then-open_count-ge2-clause-does c at =
     let p = the_view c.self.inside in
     let mid = the_view c.self-2.inside in
     let new : Parts = record mid { heap = c.leave.new.self; frames = c.leave.new.frames } in
@@ -59,8 +59,8 @@ returns-then-open_count-ge2 c at =
           (subst (λ (x : Parts). NoneMade x.heap new.heap) c.self-2.view_is (none-released mid.heap new.heap _ _ c.leave.ensures.released));
     }
 
-pub returns-else-open_count-ge2 : goal.returns-else-open_count-ge2
-returns-else-open_count-ge2 c at =
+pub returns-else-open_count-ge2-clause-does : goal.returns-else-open_count-ge2-clause-does
+returns-else-open_count-ge2-clause-does c at =
     let p = the_view c.self.inside in
     let mid = the_view c.self-2.inside in
     let e = mid-ended p _ mid _ c.args.s c.self.view_is c.self-2.view_is c.end_from.ensures.ended c.requires.given in
