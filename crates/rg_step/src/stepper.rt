@@ -12,7 +12,6 @@ ghost use Rattle.rg_held.specs.Shown.{Finds, ShowsHeld};
 ghost use Rattle.rg_machine.specs.Active.{IsActive};
 ghost use Rattle.rg_machine.specs.Owned.{IsOwned};
 ghost use Rattle.rg_machine.specs.Parts.{Parts, machine_in};
-ghost use Rattle.rg_machine.specs.Over.{NilBehind};
 ghost use Rattle.rg_step.specs.Pacers.{Asks, SameTuned, both};
 ghost use Rattle.rg_step.specs.States.{Chain, OneStep, Opens, standing};
 ghost use Rattle.rg_step.specs.Steps.{AsksFirst, IsRunning, Leapt, UnlessAsking};
@@ -27,14 +26,14 @@ use crate::collecting::{follow, is_made};
 use crate::kept::{Kept, Since};
 use crate::leap::leap;
 use crate::outcome::outcome;
-use rg_base::{EndNumbers, Event, Manager, Memory, Outcome, Seen, Word};
+use rg_base::{EndNumbers, Event, Manager, Memory, Outcome, Seen};
 use rg_code::CodeList;
 use rg_compute::Stack;
 use rg_frames::Frames;
 use rg_heap::{Active, Heap};
 use rg_input::Numbers;
 use rg_io::Source;
-use rg_machine::{Machine, WORDS};
+use rg_machine::{Machine, Words};
 use rg_pace::Pacer;
 use std::alloc::Global;
 use std::marker::Model;
@@ -48,12 +47,12 @@ pub struct Stepper {
     // lent to known steps that compute, so that it is made once
     stack: Stack,
     // lent to local steps, so that it is made once
-    words: Vec<Word>,
+    words: Words,
 }
 
 impl Model for Stepper {
     ghost use Rattle.rg_step.specs.Inner.Held.{parts_of, stepping};
-    ghost use Rattle.rg_machine.specs.Over.{NilBehind};
+    ghost use Rattle.rg_machine.specs.Over.{IsBlank};
     ghost use Rattle.rg_step.specs.Steps.{IsResting};
     ghost use Rattle.rg_step.specs.Stepping.{Stepping};
 
@@ -61,7 +60,7 @@ impl Model for Stepper {
 
     ghost view = { λ s. stepping (parts_of s.machine) s.kept };
 
-    ghost invariant = { λ s. IsResting (parts_of s.machine) × NilBehind s.words.items 0 };
+    ghost invariant = { λ s. IsResting (parts_of s.machine) × IsBlank s.words };
 }
 
 impl Stepper {
@@ -78,7 +77,7 @@ impl Stepper {
                 events: Vec::new(alloc),
             },
             stack: Stack::new(),
-            words: Vec::new(alloc),
+            words: Words::new(),
         }
     }
 
@@ -104,7 +103,6 @@ impl Stepper {
             × (self.new ≡ record self.old { parts = p })) }
         ensures kept { OnErr result (self.new ≡ self.old) }
     {
-        widen(&mut self.words)?;
         let machine = Machine::begin(alloc, code.main_slots(), manager)?;
         machine.is_sound();
         self.machine = Some(machine);
@@ -225,7 +223,7 @@ impl Stepper {
         let Some(p) = &mut self.machine else {
             unreachable!();
         };
-        let made = leap(p, &mut self.stack, self.words.as_mut_slice(), code, most);
+        let made = leap(p, &mut self.stack, &mut self.words, code, most);
         self.kept.steps = more(self.kept.steps, made);
         made
     }
@@ -283,20 +281,4 @@ fn more(steps: u64, made: u64) -> u64
     } else {
         u64::MAX
     }
-}
-
-/// Gives a buffer of nothing but nil so many words as local steps ask for.
-fn widen(words: &mut Vec<Word>) -> Result<(), Memory>
-    requires blank { NilBehind words.old.items 0 }
-    ensures blank { NilBehind words.new.items 0 }
-    ensures room { OnOk result (258 ≤ length words.new.items) }
-{
-    let mut k = words.len();
-    'widen: while k < WORDS {
-        let Ok(()) = words.push(Word::Nil) else {
-            return Err(Memory);
-        };
-        k += 1;
-    }
-    Ok(())
 }

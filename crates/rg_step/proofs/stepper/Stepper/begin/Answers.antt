@@ -23,14 +23,8 @@ returns-clause-begun c =
     )
 
 pub invariant_of-self : goal.invariant_of-self
-invariant_of-self c = (c.self.invariant.0, c.widen.ensures.blank)
-
-pub invariant_of-self-in_err-machine : goal.invariant_of-self-in_err-machine
-invariant_of-self-in_err-machine c = (c.self.invariant.0, c.widen.ensures.blank)
-
-pub invariant_of-self-2 : goal.invariant_of-self-2
-invariant_of-self-2 c =
+invariant_of-self c =
     let p = c.in_ok-machine.machine in (
       bare-resting p p.at (ap (λ (k : Core). k.stack) c.in_ok-machine.ensures.core, ap (λ (k : Core). k.printed) c.in_ok-machine.ensures.core),
-      c.widen.ensures.blank,
+      c.self.invariant.1,
     )

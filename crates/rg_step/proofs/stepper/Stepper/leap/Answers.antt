@@ -1,9 +1,6 @@
-use Rattle.std.proofs.Common.{List, subst, sym, arith, rules}
-use Rattle.std.proofs.lemmas.List.{with_items_is, places}
-use Rattle.rg_base.specs.declared.value.Word.{Word}
+use Rattle.std.proofs.Common.{subst, sym, arith}
 use Rattle.rg_machine.specs.Parts.{machine_in}
 use Rattle.rg_step.specs.Inner.Held.{stepping}
-use Rattle.rg_machine.specs.Over.{NilBehind}
 use Rattle.rg_step.specs.States.{Chain}
 use Rattle.rg_step.specs.Steps.{IsRunning, Leapt}
 use Rattle.rg_step.specs.Stepping.{Stepping}
@@ -41,15 +38,10 @@ pub leap-made-requires-clause-rests : goal.leap-made-requires-clause-rests
 leap-made-requires-clause-rests c = rests-some c.self.inside.machine c.in-Some.p c.in-Some.is c.self.invariant.0
 
 pub leap-made-requires-clause-blank : goal.leap-made-requires-clause-blank
-leap-made-requires-clause-blank c =
-    subst (λ (words : List Word). NilBehind words 0) (sym c.as_mut_slice.ensures.value) c.self.invariant.1
+leap-made-requires-clause-blank c = c.self.invariant.1
 
 pub invariant_of-self : goal.invariant_of-self
-invariant_of-self c =
-    let back = with_items_is c.self.inside.words c.leap-made.new.words (search (rules, places)) in (
-      c.leap-made.ensures.rests,
-      subst (λ (words : List Word). NilBehind words 0) (sym back) c.leap-made.ensures.blank,
-    )
+invariant_of-self c = (c.leap-made.ensures.rests, c.leap-made.ensures.blank)
 
 pub unreachable-requires : goal.unreachable-requires
 unreachable-requires c =
