@@ -26,6 +26,8 @@ FREE = {
     "rg_heap::Heap::beside": "None", "rg_heap::Heap::replace_plain": "false", "rg_cells::Cells::beside": "None",
     "rg_machine::int_among": "None", "rg_machine::get_among": "false", "rg_machine::element_among": "None",
     "rg_machine::put_among": "false", "rg_machine::put_int_among": "false", "rg_machine::end_among": "false",
+    "rg_machine::Machine::owns_nothing": "false", "rg_machine::Machine::open_slot": "false",
+    "rg_machine::Machine::open_field": "false", "rg_compute::calculated": "None",
     "rg_compute::compute": "None", "rg_compute::leading": "None", "rg_compute::holds": "None", "rg_compute::operated": "None",
     "rg_known::test_int": "None", "rg_known::test_slot": "None", "rg_known::operate_int": "None",
     "rg_known::operate_slot": "None", "rg_known::quick": "None",
