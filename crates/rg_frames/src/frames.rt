@@ -358,37 +358,6 @@ impl Frames {
         self.slots[self.first + s]
     }
 
-    /// Copies the slots of the top frame to the first words, which are nil.
-    #[inline]
-    pub fn copy_words(&self, words: &mut [Word])
-        requires room { length self.now.slots ≤ self.now.first + length words.old }
-        requires nil { (k : ℕ) → slice_index_or words.old k Nil ≡ Nil }
-        ensures copied { (k : ℕ) → slice_index_or words.new k Nil
-            ≡ unwrap_or (slice_get self.now.slots (self.now.first + k)) Nil }
-        ensures many { length words.new ≡ length words.old }
-    {
-        fetch(&self.slots, self.first, words, self.live());
-    }
-
-    /// Moves so many words to the first slots of the top frame; nil stays in their places.
-    #[inline]
-    pub fn move_words(&mut self, words: &mut [Word], many: usize)
-        requires within { self.old.first + many ≤ length self.old.slots }
-        requires room { many ≤ length words.old }
-        ensures moved { self.new ≡ record self.old {
-          slots = take self.old.first self.old.slots
-              ++ (take many words.old ++ drop (self.old.first + many) self.old.slots);
-        } }
-        ensures nil { (k : ℕ) → k < many → slice_index_or words.new k Nil ≡ Nil }
-        ensures rest { (k : ℕ) → many ≤ k →
-            slice_index_or words.new k Nil ≡ slice_index_or words.old k Nil }
-        ensures many { length words.new ≡ length words.old }
-    {
-        let end = self.first + many;
-        shift(&mut self.slots, self.first, words, many);
-        self.live = later(self.live, end);
-    }
-
     /// Makes nil a slot of the top frame, whatever its number.
     pub fn clear_word(&mut self, s: usize)
         requires { InTop self.old s }
@@ -699,55 +668,6 @@ fn copy_two(all: &mut Vec<Word>, at: usize, w: Word, x: Word)
 {
     all[at] = w;
     all[at + 1] = x;
-}
-
-// Copies so many words from a place on to the first of others.
-#[inline]
-fn fetch(all: &Vec<Word>, at: usize, words: &mut [Word], many: usize)
-    requires within { at + many ≤ length all.now.items }
-    requires room { many ≤ length words.old }
-    ensures copied { (k : ℕ) → k < many →
-        slice_index_or words.new k Nil ≡ slice_index_or all.now.items (at + k) Nil }
-    ensures rest { (k : ℕ) → many ≤ k →
-        slice_index_or words.new k Nil ≡ slice_index_or words.old k Nil }
-    ensures many { length words.new ≡ length words.old }
-{
-    let mut k = 0;
-    'fetch: while k < many {
-        words[k] = all[at + k];
-        k += 1;
-    }
-}
-
-// Moves so many of the first words over those from a place on; nil stays in their places.
-#[inline]
-fn shift(all: &mut Vec<Word>, at: usize, words: &mut [Word], many: usize)
-    requires within { at + many ≤ length all.old.items }
-    requires room { many ≤ length words.old }
-    ensures items { all.new.items ≡ take at all.old.items
-        ++ (take many words.old ++ drop (at + many) all.old.items) }
-    ensures capacity { vec_capacity all.new ≡ vec_capacity all.old }
-    ensures nil { (k : ℕ) → k < many → slice_index_or words.new k Nil ≡ Nil }
-    ensures rest { (k : ℕ) → many ≤ k →
-        slice_index_or words.new k Nil ≡ slice_index_or words.old k Nil }
-    ensures many { length words.new ≡ length words.old }
-{
-    let mut k = 0;
-    'shift: while k < many {
-        all[at + k] = words[k];
-        words[k] = Word::Nil;
-        k += 1;
-    }
-}
-
-// The one of two places that isn't in front of the other.
-#[inline]
-fn later(a: usize, b: usize) -> usize
-    ensures first { a ≤ result }
-    ensures second { b ≤ result }
-    ensures least { (m : ℕ) → a ≤ m → b ≤ m → result ≤ m }
-{
-    if a < b { b } else { a }
 }
 
 // Makes nil the slots from one place up to another, from which on they are nil.
