@@ -15,12 +15,14 @@ mod fields;
 mod headings;
 mod instructions;
 mod loops;
+mod moves;
 mod op;
 mod operands;
 mod shape;
 mod shapes;
 mod sums;
 mod texts;
+mod turns;
 mod whole;
 mod windows;
 
