@@ -496,7 +496,7 @@ impl Heap {
     }
 
     /// Whether a word leads into the active region, or into none. It owns no closed one then.
-    #[inline]
+    #[inline(always)]
     pub fn is_at_home(&self, frames: &Frames, at: Word) -> bool
         requires { (s : ℕ) → at ≡ Word.Slot s → IsHeld self.now.cells.heap s }
         ensures { result ≡ true → LeadsIntoClosed self.now frames.now at → ⊥ }
