@@ -5,6 +5,7 @@ ghost use Rattle.rg_code.specs.declared.op.Op.TheVariants as i;
 ghost use Rattle.rg_stack.specs.Machine.{put_slot};
 ghost use Rattle.rg_stack.specs.Effects.{put_in};
 ghost use Rattle.rg_stack.specs.Needs.{may_keep};
+ghost use Rattle.rg_machine.specs.declared.next.Next.TheVariants as next;
 ghost use Rattle.rg_machine.specs.Acts.{Does};
 ghost use Rattle.rg_machine.specs.Core.{Has, with_machine};
 ghost use Rattle.rg_machine.specs.Keeps.{SameBacks};
@@ -61,7 +62,8 @@ impl Machine {
     /// `swap s k`
     pub fn swap(&mut self, s: u32, index: u32) -> Next
         requires given { Has (i.Swap s index) (core_of self.old) }
-        ensures { Does (i.Swap s index) self.old self.new result }
+        ensures does { Does (i.Swap s index) self.old self.new result }
+        ensures wants { result ≡ next.Memory → ⊥ }
     {
         self.heap.is_forest();
         let Some(r) = self.stack.pop() else {

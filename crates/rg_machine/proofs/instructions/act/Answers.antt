@@ -88,7 +88,7 @@ pub returns-in-Put : goal.returns-in-Put
 returns-in-Put c = rw c.in-Put.is (c.put.ensures c.args.at)
 
 pub returns-in-Swap : goal.returns-in-Swap
-returns-in-Swap c = rw c.in-Swap.is (c.swap.ensures c.args.at)
+returns-in-Swap c = rw c.in-Swap.is (c.swap.ensures.does c.args.at)
 
 pub returns-in-Freeze : goal.returns-in-Freeze
 returns-in-Freeze c = rw c.in-Freeze.is (c.freeze.ensures c.args.at)

@@ -40,8 +40,8 @@ invariant_of-self-in-Nil c =
       lead-front x.heap x.frames x.stack.items c.pop.new.self.items c.in-Some.r c.in-Some.ensures.items c.self.invariant.1,
     )
 
-pub returns-in-Slot : goal.returns-in-Slot
-returns-in-Slot c at =
+pub returns-in-Slot-clause-does : goal.returns-in-Slot-clause-does
+returns-in-Slot-clause-does c at =
     record {
       effect = rw (c.set_word.ensures, ← c.self.view_is) ((all c).effect at);
       keeps = rw (c.set_word.ensures, ← c.self.view_is) (all c).backs;
