@@ -11,6 +11,7 @@ mod collecting;
 mod kept;
 mod leap;
 mod local;
+mod making;
 mod outcome;
 mod room;
 mod step;
