@@ -1,6 +1,6 @@
 #!/usr/bin/env bash
 # How fast programs are whose work is on arrays (bench/arrays), beside the same programs in Lua 5.4 and in LuaJIT's interpreter, where
-# these are installed; the kinds are interleaved, the least of so many turns counts, and the outputs must be the same.
+# these are installed; they take turns, the least processor time of so many counts, and the outputs must be the same.
 #   sieve    the primes below 65,535        matrix   the product of two matrices of 100 rows
 #   bubble   1,500 numbers, sorted          table    a hash table with chains, 50,000 numbers counted
 #   heap     a binary heap of 50,000 numbers
@@ -12,9 +12,9 @@ set -eu
 . "$(dirname "$0")/common.sh"
 turns=${1:-5}
 PYTHONDONTWRITEBYTECODE=1 PYTHONPATH=$here/bench python3 - "$work" "$program" "$turns" "$here/bench/arrays" <<'PY'
-import os, re, shutil, subprocess, sys
+import os, subprocess, sys
 from pathlib import Path
-from timed import seconds, written
+from timed import load, luas, turns_of, twin, written
 work, program, turns, sources = sys.argv[1], sys.argv[2], int(sys.argv[3]), Path(sys.argv[4])
 MOST = 1_000_000_000
 # a kind's size, and how many times over
@@ -31,15 +31,6 @@ main arena {
 }
 """
 
-def twins():
-    for name, words in (("lua", ["lua5.4"]), ("luajit", ["luajit", "-joff"])):
-        if shutil.which(words[0]): yield name, words
-
-def twin(name, kind):
-    """The file of a twin. LuaJIT has no operator for whole quotients."""
-    text = (sources / f"{kind}.lua").read_text()
-    return written(f"{work}/{kind}.{name}", re.sub(r"(\w+|\([^()]*\)) // (\w+)", r"math.floor(\1 / \2)", text) if name == "luajit" else text)
-
 def output(words):
     return subprocess.run(words, stdout=subprocess.PIPE, check=True).stdout
 
@@ -55,28 +46,26 @@ def resident(words):
     if status != 0: sys.exit(f"{' '.join(words)}: status {status}")
     return usage.ru_maxrss * 1024
 
-lua = list(twins())
+lua = luas()
 empty = written(f"{work}/empty.rg", "main arena { }\n")
-start = {"reggio": seconds([program, "run", empty], 10 * turns), **{name: seconds([*words, "-e", ""], 10 * turns) for name, words in lua}}
-print(f"{'kind':<8} {'size':>7} {'times':>6} {'steps':>11} {'seconds':>8} {'ns/step':>8}" + "".join(f" {name:>9} {'ratio':>6}" for name, _ in lua))
+start = turns_of({"reggio": [program, "run", empty], **{name: [*words, "-e", ""] for name, words in lua.items()}}, 10 * turns)
+print(f"{'kind':<8} {'size':>7} {'times':>6} {'steps':>11} {'seconds':>8} {'ns/step':>8}" + "".join(f" {name:>9} {'ratio':>6}" for name in lua))
 for kind, (size, times) in KINDS.items():
     text = (sources / f"{kind}.rg").read_text().replace("SIZE", str(size)).replace("TIMES", str(times))
     path = written(f"{work}/{kind}.rg", text)
     calls = {"reggio": [program, "run", path, "--every", "0", "--steps", str(MOST)]}
-    calls |= {name: [*words, twin(name, kind), str(size), str(times)] for name, words in lua}
+    calls |= {name: [*words, twin(sources / f"{kind}.lua", work, name), str(size), str(times)] for name, words in lua.items()}
     wanted = output(calls["reggio"])
     if kind == "sieve" and wanted != PRIMES: sys.exit(f"sieve: {wanted!r}")
     for name, words in calls.items():
         if output(words) != wanted: sys.exit(f"{kind}: the output of {name} differs")
-    taken = {name: [] for name in calls}
-    for _ in range(turns):
-        for name, words in calls.items(): taken[name].append(seconds(words, 1))
-    least = {name: min(each) for name, each in taken.items()}
+    least = turns_of(calls, turns)
     took = least["reggio"] - start["reggio"]
     steps = steps_of(path)
-    beside = "".join(f" {least[name] - start[name]:>9.3f} {took / (least[name] - start[name]):>6.2f}" for name, _ in lua)
+    beside = "".join(f" {least[name] - start[name]:>9.3f} {took / (least[name] - start[name]):>6.2f}" for name in lua)
     print(f"{kind:<8} {size:>7} {times:>6} {steps:>11} {took:>8.3f} {took * 1e9 / steps:>8.1f}{beside}", flush=True)
 
 few, many = (resident([program, "run", written(f"{work}/held{size}.rg", HELD.replace("SIZE", str(size)))]) for size in (0, 65_535))
 print(f"an array of 65,535 numbers takes {(many - few) / 64 / 65_535:.2f} bytes a number")
+print(load())
 PY

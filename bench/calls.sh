@@ -28,14 +28,16 @@ FREE = {
     "rg_machine::put_among": "false", "rg_machine::put_int_among": "false", "rg_machine::end_among": "false",
     "rg_machine::Machine::owns_nothing": "false", "rg_machine::Machine::open_slot": "false",
     "rg_machine::Machine::open_field": "false", "rg_compute::calculated": "None",
-    "rg_compute::compute": "None", "rg_compute::leading": "None", "rg_compute::holds": "None", "rg_compute::operated": "None",
+    "rg_compute::compute": "None", "rg_compute::call_ahead": "None", "rg_compute::leading": "None",
+    "rg_compute::holds": "None", "rg_compute::operated": "None",
     "rg_known::test_int": "None", "rg_known::test_slot": "None", "rg_known::operate_int": "None",
     "rg_known::operate_slot": "None", "rg_known::quick": "None",
     "rg_local::local_less_int": "None", "rg_local::local_less_slot": "None", "rg_local::local_test_slot": "None",
     "rg_local::local_test_at": "None", "rg_local::local_add_int": "None", "rg_local::local_add_slot": "None",
     "rg_local::local_add_product": "None", "rg_local::local_get_at": "None", "rg_local::local_get_beyond": "None",
     "rg_local::local_put_at": "None", "rg_local::local_put_int_at": "None", "rg_local::local_put_beyond": "None",
-    "rg_local::local_end": "None", "rg_local::local_end_jump": "None", "rg_local::local_seldom": "None",
+    "rg_local::local_end": "None", "rg_local::local_end_jump": "None",
+    "rg_local::local_head_slot": "None", "rg_local::local_seldom": "None",
     "rg_pace::Pacer::ask": "false",
 }
 # Answers that no run of a program's code comes to, as their clause on when they come says: nothing need hold behind them.

@@ -8,15 +8,15 @@
 # cells; and `list` under `trace` once more beside 1,000 other regions of 1,000 cells each.
 # A collection's time is that of a program that collects, less that of the same one that doesn't, for each cell of the
 # region; the slowest size should be within 1.3 of the fastest. Beside it stands a full collection of the same heap in
-# Lua, where lua5.4 is installed: that looks at the other regions too.
+# Lua 5.4 and in LuaJIT's interpreter, where these are installed: that looks at the other regions too.
 # Not a part of the gate. Usage: bench/collect.sh [TURNS [PROGRAM]]
 set -eu
 . "$(dirname "$0")/common.sh"
 turns=${1:-3}
-PYTHONDONTWRITEBYTECODE=1 PYTHONPATH=$here/bench python3 - "$work" "$program" "$turns" "$(command -v lua5.4 || true)" <<'PY'
+PYTHONDONTWRITEBYTECODE=1 PYTHONPATH=$here/bench python3 - "$work" "$program" "$turns" <<'PY'
 import sys
-from timed import seconds, written
-work, program, turns, lua = sys.argv[1], sys.argv[2], int(sys.argv[3]), sys.argv[4]
+from timed import luas, seconds, twin, written
+work, program, turns = sys.argv[1], sys.argv[2], int(sys.argv[3])
 
 NODE = "class Node { left: mut Node; right: mut Node; }\n"
 MAKER = """class Maker {
@@ -99,7 +99,8 @@ def cost(words_of, size, collects, often):
 ROWS = [("run", "trace", kind) for kind in ("list", "tree", "half", "none", "rooms")]
 ROWS += [("run", "count", kind) for kind in ("list", "tree", "half", "none")]
 ROWS += [("slide", "trace", kind) for kind in ("list", "tree", "half", "none")]
-print(f"{'command':<8} {'manager':<8} {'kind':<6} {'cells':>9} {'ns/cell':>9} {'lua':>9}")
+lua = luas()
+print(f"{'command':<8} {'manager':<8} {'kind':<6} {'cells':>9} {'ns/cell':>9}" + "".join(f" {name:>9}" for name in lua))
 for command, manager, kind in ROWS:
     rates = []
     for size in [1000, 10_000, 100_000, 1_000_000]:
@@ -108,10 +109,10 @@ for command, manager, kind in ROWS:
         def run(n): return [program, command, written(f"{work}/a.rg", source(kind, manager, size, n)), "--every", "0", "--steps", "1000000000"]
         rate = cost(run, size, collects, often)
         rates.append(rate)
-        of_lua = ""
-        if lua and (command, manager) == ("run", "trace"):
-            def run_lua(n): return [lua, written(f"{work}/a.lua", lua_source(kind, size, n))]
-            of_lua = f"{cost(run_lua, size, collects, often):9.1f}"
-        print(f"{command:<8} {manager:<8} {kind:<6} {size:>9} {rate:>9.1f} {of_lua}", flush=True)
+        beside = ""
+        for name, words in lua.items() if (command, manager) == ("run", "trace") else ():
+            def run_lua(n): return [*words, twin(written(f"{work}/a.lua", lua_source(kind, size, n)), work, name)]
+            beside += f" {cost(run_lua, size, collects, often):>9.1f}"
+        print(f"{command:<8} {manager:<8} {kind:<6} {size:>9} {rate:>9.1f}{beside}", flush=True)
     print(f"{'':<17} {kind:<6} slowest {max(rates) / min(rates):.2f} times the fastest", flush=True)
 PY

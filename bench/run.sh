@@ -7,17 +7,18 @@
 #   frozen      1,000 to 10,000 regions in one another, built, frozen once at the end, and walked
 # It prints the steps, the seconds without those of an empty program, and the nanoseconds of a step, and for each
 # kind how far the slowest size is above the fastest: that should be within 1.3. Beside it stand the seconds of the
-# same program in Lua (bench/lua), where lua5.4 is installed. The number of steps of each program is known, and is
-# tried first: the program is done after so many, and is spent after one less.
+# same program in Lua 5.4 and in LuaJIT's interpreter (bench/lua), where these are installed; all take turns, and the
+# least processor time counts. The number of steps of each program is known, and is tried first: the program is done
+# after so many, and is spent after one less.
 # Pacers are tuned to never (--every 0), so that a step's own time is measured: bench/collect.sh has collections.
 # Not a part of the gate. Usage: bench/run.sh [TURNS [PROGRAM]]
 set -eu
 . "$(dirname "$0")/common.sh"
 turns=${1:-5}
-PYTHONDONTWRITEBYTECODE=1 PYTHONPATH=$here/bench python3 - "$work" "$program" "$turns" "$here/bench/lua" "$(command -v lua5.4 || true)" <<'PY'
+PYTHONDONTWRITEBYTECODE=1 PYTHONPATH=$here/bench python3 - "$work" "$program" "$turns" "$here/bench/lua" <<'PY'
 import subprocess, sys
-from timed import seconds, written
-work, program, turns, twins, lua = sys.argv[1], sys.argv[2], int(sys.argv[3]), sys.argv[4], sys.argv[5]
+from timed import load, luas, turns_of, twin, written
+work, program, turns, twins = sys.argv[1], sys.argv[2], int(sys.argv[3]), sys.argv[4]
 
 LIST = """class Node { value: int; next: mut Node; }
 class List {
@@ -115,9 +116,10 @@ def status(path, steps):
 def output(words):
     return subprocess.run(words, stdout=subprocess.PIPE).stdout
 
-start = seconds([program, "run", written(f"{work}/empty.rg", "main arena { }\n")], 20 * turns)
-lua_start = seconds([lua, "-e", ""], 20 * turns) if lua else 0
-print(f"{'kind':<10} {'size':>9} {'times':>7} {'steps':>10} {'seconds':>9} {'ns/step':>9} {'lua':>9} {'to lua':>7}")
+lua = luas()
+empty = written(f"{work}/empty.rg", "main arena { }\n")
+start = turns_of({"reggio": [program, "run", empty], **{name: [*words, "-e", ""] for name, words in lua.items()}}, 20 * turns)
+print(f"{'kind':<10} {'size':>9} {'times':>7} {'steps':>10} {'seconds':>9} {'ns/step':>9}" + "".join(f" {name:>9} {'ratio':>6}" for name in lua))
 for kind, (text, sizes, steps_of) in KINDS.items():
     rates = []
     for size, times in sizes:
@@ -127,14 +129,14 @@ for kind, (text, sizes, steps_of) in KINDS.items():
             sys.exit(f"{kind} {size}: it doesn't take {steps} steps")
         # short programs more often, since they are about as short as a start
         often = turns * min(20, max(1, 1_000_000 // steps))
-        took = max(seconds([program, "run", path, "--every", "0", "--steps", str(steps)], often) - start, 1e-6)
-        rates.append(took * 1e9 / steps)
-        beside = ""
-        if lua:
-            words = [lua, f"{twins}/{kind}.lua", str(size), str(times)]
-            if output(words) != output([program, "run", path, "--every", "0", "--steps", str(steps)]): sys.exit(f"{kind} {size}: Lua's output differs")
-            twin = max(seconds(words, often) - lua_start, 1e-6)
-            beside = f"{twin:>9.4f} {took / twin:>7.1f}"
-        print(f"{kind:<10} {size:>9} {times:>7} {steps:>10} {took:>9.4f} {rates[-1]:>9.1f} {beside}", flush=True)
+        calls = {"reggio": [program, "run", path, "--every", "0", "--steps", str(steps)]}
+        calls |= {name: [*words, twin(f"{twins}/{kind}.lua", work, name), str(size), str(times)] for name, words in lua.items()}
+        for name, words in calls.items():
+            if output(words) != output(calls["reggio"]): sys.exit(f"{kind} {size}: the output of {name} differs")
+        took = {name: max(least - start[name], 1e-6) for name, least in turns_of(calls, often).items()}
+        rates.append(took["reggio"] * 1e9 / steps)
+        beside = "".join(f" {took[name]:>9.4f} {took['reggio'] / took[name]:>6.2f}" for name in lua)
+        print(f"{kind:<10} {size:>9} {times:>7} {steps:>10} {took['reggio']:>9.4f} {rates[-1]:>9.1f}{beside}", flush=True)
     print(f"{kind:<10} the slowest is {max(rates) / min(rates):.2f} times the fastest")
+print(load())
 PY
