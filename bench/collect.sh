@@ -6,16 +6,17 @@
 #   none      one list that nothing leads to any more, so nothing is kept
 # under `trace`, under `count`, and under `trace` with the command `slide`, by which what is kept moves to the lowest
 # cells; and `list` under `trace` once more beside 1,000 other regions of 1,000 cells each.
-# A collection's time is that of a program that collects, less that of the same one that doesn't, for each cell of the
-# region; the slowest size should be within 1.3 of the fastest. Beside it stands a full collection of the same heap in
-# Lua 5.4 and in LuaJIT's interpreter, where these are installed: that looks at the other regions too.
+# A collection's time is the processor time of a program that collects, less that of the same one that doesn't, for each
+# cell of the region; the slowest size should be within 1.3 of the fastest. Beside it stands a full collection of the
+# same heap in Lua 5.4 and in LuaJIT's interpreter, where these are installed: that looks at the other regions too. All
+# take turns, and the least counts.
 # Not a part of the gate. Usage: bench/collect.sh [TURNS [PROGRAM]]
 set -eu
 . "$(dirname "$0")/common.sh"
 turns=${1:-3}
 PYTHONDONTWRITEBYTECODE=1 PYTHONPATH=$here/bench python3 - "$work" "$program" "$turns" <<'PY'
 import sys
-from timed import luas, seconds, twin, written
+from timed import luas, turns_of, twin, written
 work, program, turns = sys.argv[1], sys.argv[2], int(sys.argv[3])
 
 NODE = "class Node { left: mut Node; right: mut Node; }\n"
@@ -92,10 +93,6 @@ def lua_source(kind, size, collects):
         body += "a = nil\n"
     return 'collectgarbage("stop")\n' + body.replace("SIZE", str(size)) + 'collectgarbage("collect")\n' * collects
 
-def cost(words_of, size, collects, often):
-    without = seconds(words_of(0), often)
-    return max(seconds(words_of(collects), often) - without, 1e-9) * 1e9 / (size * collects)
-
 ROWS = [("run", "trace", kind) for kind in ("list", "tree", "half", "none", "rooms")]
 ROWS += [("run", "count", kind) for kind in ("list", "tree", "half", "none")]
 ROWS += [("slide", "trace", kind) for kind in ("list", "tree", "half", "none")]
@@ -106,13 +103,15 @@ for command, manager, kind in ROWS:
     for size in [1000, 10_000, 100_000, 1_000_000]:
         collects = 1 if kind in ("half", "none") else max(1, min(200, 1_000_000 // size))
         often = turns * (1 if kind == "rooms" else min(20, max(1, 1_000_000 // size)))
-        def run(n): return [program, command, written(f"{work}/a.rg", source(kind, manager, size, n)), "--every", "0", "--steps", "1000000000"]
-        rate = cost(run, size, collects, often)
-        rates.append(rate)
-        beside = ""
-        for name, words in lua.items() if (command, manager) == ("run", "trace") else ():
-            def run_lua(n): return [*words, twin(written(f"{work}/a.lua", lua_source(kind, size, n)), work, name)]
-            beside += f" {cost(run_lua, size, collects, often):>9.1f}"
-        print(f"{command:<8} {manager:<8} {kind:<6} {size:>9} {rate:>9.1f}{beside}", flush=True)
-    print(f"{'':<17} {kind:<6} slowest {max(rates) / min(rates):.2f} times the fastest", flush=True)
+        words_of = {"reggio": lambda n: [program, command, written(f"{work}/{n}.rg", source(kind, manager, size, n)),
+                                         "--every", "0", "--steps", "1000000000"]}
+        if (command, manager) == ("run", "trace"):
+            for name, words in lua.items():
+                words_of[name] = lambda n, name=name, words=words: [*words, twin(written(f"{work}/{n}.lua", lua_source(kind, size, n)), work, name)]
+        took = turns_of({(name, n): words_of[name](n) for name in words_of for n in (0, collects)}, often)
+        cost = {name: max(took[name, collects] - took[name, 0], 0) * 1e9 / (size * collects) for name in words_of}
+        rates.append(cost.pop("reggio"))
+        beside = "".join(f" {each:>9.1f}" for each in cost.values())
+        print(f"{command:<8} {manager:<8} {kind:<6} {size:>9} {rates[-1]:>9.1f}{beside}", flush=True)
+    print(f"{'':<17} {kind:<6} slowest {max(rates) / max(min(rates), 0.1):.2f} times the fastest", flush=True)
 PY
