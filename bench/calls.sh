@@ -287,7 +287,9 @@ class Call:
         elif ret == "bool": out.insert(0, "false")
         elif ret in ANSWERS: out += ANSWERS[ret]
         elif ret in ("Ended", "Status"): out += variants(self.crate, ret)
-        return out
+        # a clause may rule an answer out
+        never = [re.fullmatch(r"result ≡ \(?(?:Err )?([\w.]+)\)? → ⊥", text) for _, text in self.says]
+        return [it for it in out if it not in [m[1].split(".")[-1] for m in never if m]]
 
     def takes_memory(self): return bool(MEMORY & {*self.refuses})
 
