@@ -1,5 +1,5 @@
 -- What the records show after one is written.
-use Rattle.std.proofs.Common.{◌≡◌, ℕ, ◌-◌, ◌<◌, zero, suc, List, [], ◌∷◌, length, map, Option, Some, None, IsSome, get_or, set, vec_capacity, refl}
+use Rattle.std.proofs.Common.{◌≡◌, ℕ, ◌-◌, ◌<◌, zero, suc, List, [], ◌∷◌, length, map, Option, Some, None, IsSome, get_or, set, refl}
 use Rattle.std.proofs.Common.{ap, sym, ◌∙◌, subst, arith, option_map}
 use Rattle.std.proofs.lemmas.List.{map-set}
 use Rattle.std.proofs.lemmas.Option.{same_Some}
@@ -111,17 +111,17 @@ indexed-written entries xs next key r n e s i = record {
 
 -- room for a member is room of the region's
 pub room_at : (xs : List (Option Region)) (next key : ℕ) (now : RegionTable) (rec : Record) → table_of xs next ≡ now → record_at now key ≡ Some rec
-    → 0 < rec.room → (r : Region) × (get_or xs key None ≡ Some r) × (length r.members.items < vec_capacity r.members)
+    → 0 < rec.room → (r : Region) × (get_or xs key None ≡ Some r) × (length r.members.items < r.members.capacity)
 room_at xs next key now rec e f l =
     let P : RegionTable → Type 0 = λ t. record_at t key ≡ Some rec in
     let g : shown (get_or xs key None) ≡ Some rec = sym (shown-at xs key) ∙ subst P (sym e) f in
     by_option (get_or xs key None) g
   where
-    by_option : (o : Option Region) → shown o ≡ Some rec → (r : Region) × (o ≡ Some r) × (length r.members.items < vec_capacity r.members)
+    by_option : (o : Option Region) → shown o ≡ Some rec → (r : Region) × (o ≡ Some r) × (length r.members.items < r.members.capacity)
     by_option None q = cc
     by_option (Some r) q =
         let s : record_of r ≡ rec = same_Some (record_of r) rec q in
-        let n : vec_capacity r.members - length r.members.items ≡ rec.room = ap (λ (z : Record). z.room) s in
+        let n : r.members.capacity - length r.members.items ≡ rec.room = ap (λ (z : Record). z.room) s in
         (r, refl, omega (arith, n, l))
 
 -- nothing shows a change

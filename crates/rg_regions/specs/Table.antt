@@ -69,9 +69,9 @@ without_member place r = record r { members = swap_remove r.members place 0; roo
 abbrev pub with_room : ℕ → Record → Record
 with_room n r = record r { room = n }
 
--- a new region: it has the next number, and neither members nor a bridge
+-- a new region: it has the next number, neither members nor a bridge, and room for the first member
 abbrev pub fresh : RegionTable → Manager → Record
-fresh t m = record { number = t.next; manager = m; members = []; bridge = None; room = 0 }
+fresh t m = record { number = t.next; manager = m; members = []; bridge = None; room = 1 }
 
 -- the region of a key changes
 abbrev pub changed : RegionTable → ℕ → (Record → Record) → RegionTable

@@ -1,6 +1,6 @@
 //! What is written into the records of regions (docs/architecture.md, "Regions").
 
-ghost use Rattle.std.specs.Prelude.{◌≡◌, ◌<◌, ◌≤◌, Some, OnOk, OnErr, length, vec_capacity};
+ghost use Rattle.std.specs.Prelude.{◌≡◌, ◌<◌, ◌≤◌, Some, OnOk, OnErr, length};
 ghost use Rattle.rg_regions.specs.Table.{with_member, without_member, with_room};
 ghost use Rattle.rg_regions.specs.Inner.Layout.{record_of, HasRegion, HasPlaceAt, HasRoomAt};
 ghost use Rattle.rg_regions.specs.Inner.Layout.{Writes, Rewrites, Widens, Sorts};
@@ -29,12 +29,14 @@ fn shorten(region: &mut Region, place: usize)
     ensures link { region.new.link ≡ region.old.link }
     ensures shows { record_of region.new ≡ without_member place (record_of region.old) }
 {
+    let count = region.members.len();
+    prove!(place < count);
     region.members.swap_remove(place);
 }
 
 // A member comes, for which there is room.
 fn lengthen(region: &mut Region, slot: usize)
-    requires { length region.old.members.items < vec_capacity region.old.members }
+    requires { length region.old.members.items < region.old.members.capacity }
     ensures link { region.new.link ≡ region.old.link }
     ensures shows { record_of region.new ≡ with_member slot (record_of region.old) }
 {
@@ -49,11 +51,27 @@ fn sort(region: &mut Region)
     ensures rise { IsNonDecreasing region.new.members.items }
     ensures same { IsPermutation region.old.members.items region.new.members.items }
 {
-    region.members.sort_unstable();
+    let members = region.members.as_mut_slice();
+    members.sort_unstable();
 }
 
 // The record stays, but for the room.
 fn widen(region: &mut Region, more: usize) -> Result<(), Memory>
+    ensures link { region.new.link ≡ region.old.link }
+    ensures shows { record_of region.new
+        ≡ with_room (record_of region.new).room (record_of region.old) }
+    ensures ok { OnOk result (more ≤ (record_of region.new).room) }
+    ensures err { OnErr result (record_of region.new ≡ record_of region.old) }
+{
+    if more <= region.members.capacity() - region.members.len() {
+        return Ok(());
+    }
+    widen_otherwise(region, more)
+}
+
+// The same, where there may be too little room.
+#[inline(never)]
+fn widen_otherwise(region: &mut Region, more: usize) -> Result<(), Memory>
     ensures link { region.new.link ≡ region.old.link }
     ensures shows { record_of region.new
         ≡ with_room (record_of region.new).room (record_of region.old) }

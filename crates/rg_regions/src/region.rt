@@ -1,6 +1,7 @@
 //! A region of the table, and what a collection answers (docs/architecture.md, "Regions").
 
 use rg_base::Manager;
+use smallvec::SmallVec;
 
 /// What a collection kept of its region, and the head of the chain of the regions that it left
 /// without an owner.
@@ -15,7 +16,7 @@ pub struct Kept {
 pub struct Region {
     pub number: u64,
     pub manager: Manager,
-    pub members: Vec<usize>,
+    pub members: SmallVec<usize, 1>,
     pub bridge: Option<usize>,
     pub link: Option<usize>,
 }

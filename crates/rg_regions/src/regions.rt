@@ -18,6 +18,7 @@ use crate::region::{Kept, Region};
 use indexmap::IndexMap;
 use rg_base::{Manager, Memory};
 use slab::Slab;
+use smallvec::SmallVec;
 use std::alloc::Global;
 use std::marker::Model;
 
@@ -157,7 +158,7 @@ impl Regions {
         ensures { option_map (λ (r : Record). r.members) (record_at self.now key)
             ≡ Some result.now }
     {
-        &self.region(key).members
+        self.region(key).members.as_slice()
     }
 
     /// What a collection kept of a region, with the chain of the regions that it left without an
@@ -250,7 +251,7 @@ impl Regions {
         let key = self.records.insert_reserved(Region {
             number: self.next,
             manager,
-            members: Vec::new(self.alloc),
+            members: SmallVec::new(self.alloc),
             bridge: None,
             link: None,
         });

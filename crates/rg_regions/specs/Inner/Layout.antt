@@ -1,5 +1,5 @@
 -- The layout of the region table: what a slab of regions shows, and the map from numbers to keys (docs/architecture.md, "Regions").
-use Rattle.std.specs.Prelude.{◌≡◌, ℕ, ◌-◌, ◌<◌, ◌≤◌, List, Option, Some, None, map, vec_capacity, length, nat_eq}
+use Rattle.std.specs.Prelude.{◌≡◌, ℕ, ◌-◌, ◌<◌, ◌≤◌, List, Option, Some, None, map, length, nat_eq}
 use Rattle.std.specs.Prelude.{Result, OnOk, OnErr}
 use Rattle.std.specs.Map.{lookup}
 use Rattle.rg_base.specs.declared.fault.Memory.{Memory}
@@ -16,7 +16,7 @@ record_of r = record {
   manager = r.manager;
   members = r.members.items;
   bridge = r.bridge;
-  room = vec_capacity r.members - length r.members.items;
+  room = r.members.capacity - length r.members.items;
 }
 
 abbrev pub shown : Option Region → Option Record
@@ -39,7 +39,7 @@ abbrev pub HasPlaceAt : Slab Region → (key place : ℕ) → Type 0
 HasPlaceAt records key place = (r : Region) × (get records key ≡ Some r) × (place < length r.members.items)
 
 abbrev pub HasRoomAt : Slab Region → (key : ℕ) → Type 0
-HasRoomAt records key = (r : Region) × (get records key ≡ Some r) × (length r.members.items < vec_capacity r.members)
+HasRoomAt records key = (r : Region) × (get records key ≡ Some r) × (length r.members.items < r.members.capacity)
 
 -- the region of a key is written, and nothing else
 abbrev pub Writes : (old new : Slab Region) → (key : ℕ) → (Region → Region) → Type 0

@@ -1,5 +1,5 @@
 use Rattle.std.proofs.Common.{◌≡◌, ◌+◌, ap, ◌∙◌, subst, sym, refl, ℕ, Option, Some, None, option_map, [], cond, nat_eq, List, length}
-use Rattle.std.proofs.Common.{◌-◌, vec_capacity}
+use Rattle.std.proofs.Common.{◌-◌}
 use Rattle.std.specs.Map.{lookup}
 use Rattle.slab.specs.Slab.{Slab}
 use Rattle.rg_regions.specs.declared.region.Region.{Region}
@@ -20,7 +20,7 @@ come : (c : After-insert_reserved-key) → Added (table_of c.reserve.new.self.sl
       manager = c.args.manager;
       members = c.new.result.items;
       bridge = None;
-      room = vec_capacity c.new.result - length c.new.result.items;
+      room = c.new.result.capacity - length c.new.result.items;
     })
 come c =
     let put = c.insert_reserved-key in
@@ -35,9 +35,9 @@ returns-clause-added c =
     let put = c.insert_reserved-key in
     let new = table_of put.new.self.slots (s.next + 1) in
     let shape : List ℕ → ℕ → Record = λ ms n. record { number = s.next; manager = c.args.manager; members = ms; bridge = None; room = n } in
-    let made : Record = shape c.new.result.items (vec_capacity c.new.result - length c.new.result.items) in
-    let blank : made ≡ shape [] 0 =
-    ap (λ (m : List ℕ). shape m (vec_capacity c.new.result - length m)) c.new.ensures.items
+    let made : Record = shape c.new.result.items (c.new.result.capacity - length c.new.result.items) in
+    let blank : made ≡ shape [] 1 =
+    ap (λ (m : List ℕ). shape m (c.new.result.capacity - length m)) c.new.ensures.items
     ∙ ap (λ (n : ℕ). shape [] (n - 0)) c.new.ensures.capacity in
     let A : Record → Type 0 = λ r. Added (table_of xs s.next) new put.result r in
     let S : List (Option Region) → Type 0 = λ ys. Added (table_of ys s.next) new put.result made in
