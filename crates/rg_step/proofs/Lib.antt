@@ -5,6 +5,7 @@ mod Shapes
 mod Pacing
 mod Frees
 mod Hops
+mod Turns
 mod Locals
 mod Held
 mod One
