@@ -3,7 +3,7 @@
 ghost use Rattle.std.specs.Prelude.{◌≡◌, ◌≤◌, ◌+◌, ◌-◌, ◌<◌, ◌^◌, ◌++◌, ◌∷◌, ◌↔◌, None, Some, Ok, Err, slice_set};
 ghost use Rattle.std.specs.Prelude.{IfSome, IsNone, OnOk, OnErr, slice_index_or, length, drop, take, replicate};
 ghost use Rattle.std.specs.Prelude.{slice_get, slice_set, unwrap_or, vec_len, vec_capacity};
-ghost use Rattle.std.specs.Prelude.{true, ℕ, List};
+ghost use Rattle.std.specs.Prelude.{true, false, ℕ, List};
 ghost use Rattle.rg_base.specs.declared.value.Word.{Word as WordOf};
 ghost use Rattle.std.specs.List.{list_any};
 ghost use Rattle.rg_base.specs.declared.limits.TheConstants.{FRAMES as MOST};
@@ -334,10 +334,20 @@ impl Frames {
         ensures { self.new ≡ record self.old { slots = slice_set self.old.slots place w } }
     {
         if place < self.top {
-            self.slots[place] = w;
-            if self.live <= place {
-                self.live = place + 1;
-            }
+            self.set_place(place, w);
+        }
+    }
+
+    /// Writes a slot of the top frame by its place among all slots.
+    #[inline]
+    pub fn set_place(&mut self, place: usize, w: Word)
+        requires from { self.old.first ≤ place }
+        requires within { place < length self.old.slots }
+        ensures { self.new ≡ record self.old { slots = slice_set self.old.slots place w } }
+    {
+        self.slots[place] = w;
+        if self.live <= place {
+            self.live = place + 1;
         }
     }
 
@@ -393,7 +403,7 @@ impl Frames {
     pub fn size(&self) -> usize
         ensures { result ≡ length self.now.slots - self.now.first }
     {
-        self.top.saturating_sub(self.first)
+        self.top - self.first
     }
 
     /// The place of the top frame's first slot among all slots.
@@ -452,11 +462,33 @@ impl Frames {
         ensures numbers { OnOk result (self.new.next < 2 ^ 64 - 1) }
         ensures err { OnErr result (self.new ≡ self.old) }
     {
-        if self.next >= u64::MAX - 1 {
-            return Err(Memory);
-        }
         reserve_both(&mut self.windows, &mut self.marks)?;
         let number = self.next;
+        if !self.open_window(region, owner, base) {
+            return Err(Memory);
+        }
+        Ok(number)
+    }
+
+    /// Opens a window, with the next number, where there is room for it; answers whether there is.
+    #[inline(always)]
+    pub fn open_window(&mut self, region: usize, owner: Place, base: usize) -> bool
+        requires above { BaseUpTo self.old base }
+        requires within { base ≤ length self.old.slots }
+        ensures opens { result ≡ true → self.new ≡ opened self.old region owner base }
+        ensures numbers { result ≡ true → self.new.next < 2 ^ 64 - 1 }
+        ensures stays { result ≡ false → self.new ≡ self.old }
+    {
+        let number = self.next;
+        if number >= u64::MAX - 1 {
+            return false;
+        }
+        if self.windows.len() >= self.windows.capacity() {
+            return false;
+        }
+        if self.marks.len() >= self.marks.capacity() {
+            return false;
+        }
         self.windows.push_reserved(Window {
             number,
             region,
@@ -465,7 +497,7 @@ impl Frames {
         });
         self.marks.push_reserved(self.temps.len());
         self.next = number + 1;
-        Ok(number)
+        true
     }
 
     /// Closes the top window, which has no temporaries.

@@ -7,7 +7,8 @@ ghost use Rattle.rg_base.specs.declared.object.Label.TheVariants.{Region, Temp};
 ghost use Rattle.rg_cells.specs.declared.cell.Body.{Body as BodyOf};
 ghost use Rattle.rg_cells.specs.Table.{IsHeld, body_at, field_at, label_at, width, with_field};
 ghost use Rattle.rg_cells.specs.Table.{Serials, high_of, high_after};
-ghost use Rattle.rg_regions.specs.Table.{IsKey, Added, fresh};
+ghost use Rattle.rg_regions.specs.Reach.{LiesIn};
+ghost use Rattle.rg_regions.specs.Table.{IsKey, Added, HasNumber, fresh};
 ghost use Rattle.rg_regions.specs.Grove.{Below, Grove};
 ghost use Rattle.rg_frames.specs.Stack.{BaseUpTo, Begun, closed, opened, with_temp};
 ghost use Rattle.rg_frames.specs.Stack.{without_temps};
@@ -295,6 +296,22 @@ impl Heap {
             return Err(Refusal::Memory);
         };
         Ok(slot)
+    }
+
+    /// The key of the region in which a cell lies, where it lies in one and the hints tell it.
+    #[inline(always)]
+    pub fn hinted_region(&self, slot: usize) -> Option<usize>
+        requires { IsHeld self.now.cells.heap slot }
+        ensures { IfSome result (λ key. (n : ℕ) × LiesIn self.now.cells.heap n slot
+            × HasNumber self.now.regions key n) }
+    {
+        let Label::Region(number) = self.cells.label(slot) else {
+            return None;
+        };
+        let Some(key) = self.regions.hinted_key(number) else {
+            return None;
+        };
+        Some(key)
     }
 
     /// Leaves the top window. Its temporaries go, and so do the closed regions that they own, with

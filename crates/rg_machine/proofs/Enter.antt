@@ -2,3 +2,4 @@
 pub mod Place
 pub mod Slot
 pub mod Field
+pub mod Key

@@ -106,6 +106,20 @@ impl Regions {
         self.key_by_map(number)
     }
 
+    /// The key of a number, where the hints tell it.
+    #[inline(always)]
+    pub fn hinted_key(&self, number: u64) -> Option<usize>
+        ensures { IfSome result (λ key. HasNumber self.now key number) }
+    {
+        let Some(key) = hint(&self.hints, number) else {
+            return None;
+        };
+        if !self.has_number(key, number) {
+            return None;
+        }
+        Some(key)
+    }
+
     // The same, with no look at the hints.
     #[inline(never)]
     fn key_by_map(&self, number: u64) -> Option<usize>

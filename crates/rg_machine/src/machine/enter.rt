@@ -19,6 +19,7 @@ use rg_base::{Place, Trap, Word};
 
 impl Machine {
     /// Where a window over a slot of the topmost frame begins; None where none can be opened there.
+    #[inline(always)]
     fn base_at(&self, z: u32) -> Option<usize>
         ensures some { IfSome result (λ base. (can_open (machine_in self.now) z ≡ true)
             × (base ≡ place_of (machine_in self.now).frames z)
@@ -107,8 +108,94 @@ impl Machine {
         self.enter_from(r, index, z)
     }
 
+    /// `enter s z`, where it opens a window and nothing need be searched for that; answers whether
+    /// it does.
+    #[inline(always)]
+    fn open(&mut self, s: u32, z: u32) -> bool
+        requires given { Has (i.Enter s z) (core_of self.old) }
+        ensures opens { result ≡ true → Does (i.Enter s z) self.old self.new next.On }
+        ensures stays { result ≡ false → self.new ≡ self.old }
+        ensures words { self.new.words ≡ self.old.words }
+        ensures printed { self.new.printed ≡ self.old.printed }
+    {
+        self.heap.is_forest();
+        let Word::Slot(slot) = self.frames.word(s) else {
+            return false;
+        };
+        let Some(key) = self.heap.hinted_region(slot) else {
+            return false;
+        };
+        let Some(base) = self.base_at(z) else {
+            return false;
+        };
+        let owner = Place::Var {
+            frame: self.depth(),
+            slot: s,
+        };
+        if !self.frames.open_window(key, owner, base) {
+            return false;
+        }
+        self.frames.set_place(base, Word::Slot(slot));
+        true
+    }
+
+    /// `enterf k z` of the object to which a word leads, where it opens a window and nothing need be
+    /// searched for that; answers whether it does.
+    #[inline(always)]
+    fn open_from(&mut self, r: Word, index: u32, z: u32) -> bool
+        requires leads { Leads self.old.heap self.old.frames r }
+        requires given { Has (i.EnterField index z) (core_of (with_word self.old r)) }
+        ensures opens { result ≡ true
+            → Does (i.EnterField index z) (with_word self.old r) self.new next.On }
+        ensures stays { result ≡ false → self.new ≡ self.old }
+        ensures words { self.new.words ≡ self.old.words }
+        ensures printed { self.new.printed ≡ self.old.printed }
+    {
+        self.heap.is_forest();
+        let Word::Slot(holder) = r else {
+            return false;
+        };
+        let Ok(bridge) = self.heap.read(r, index) else {
+            return false;
+        };
+        let Word::Slot(slot) = bridge else {
+            return false;
+        };
+        let Some(key) = self.heap.hinted_region(slot) else {
+            return false;
+        };
+        let Some(base) = self.base_at(z) else {
+            return false;
+        };
+        let owner = Place::Field {
+            serial: self.heap.serial(holder),
+            index,
+        };
+        if !self.frames.open_window(key, owner, base) {
+            return false;
+        }
+        self.frames.set_place(base, Word::Slot(slot));
+        true
+    }
+
     /// `enter s z`, where it opens a window; answers whether it does.
+    #[inline(never)]
     pub fn open_slot(&mut self, s: u8, z: u8) -> bool
+        requires given { Has (i.Enter s z) (core_of self.old) }
+        ensures opens { result ≡ true → Does (i.Enter s z) self.old self.new next.On }
+        ensures stays { result ≡ false → self.new ≡ self.old }
+        ensures words { self.new.words ≡ self.old.words }
+        ensures printed { self.new.printed ≡ self.old.printed }
+    {
+        if self.open(u32::from(s), u32::from(z)) {
+            return true;
+        }
+        self.open_slot_otherwise(s, z)
+    }
+
+    /// The same, whatever need be searched for.
+    #[inline(never)]
+    fn open_slot_otherwise(&mut self, s: u8, z: u8) -> bool
         requires given { Has (i.Enter s z) (core_of self.old) }
         ensures opens { result ≡ true → Does (i.Enter s z) self.old self.new next.On }
         ensures stays { result ≡ false → self.new ≡ self.old }
@@ -122,7 +209,27 @@ impl Machine {
     }
 
     /// `load r`, `enterf k z`, where it opens a window; answers whether it does.
+    #[inline(never)]
     pub fn open_field(&mut self, r: u8, index: u32, z: u8) -> bool
+        requires given { Has (i.EnterField index z)
+            (with_top (core_of self.old) (slot_at (machine_in self.old) r)) }
+        ensures opens { result ≡ true → (w : WordOf)
+            × (val_in self.old w ≡ slot_at (machine_in self.old) r)
+            × Does (i.EnterField index z) (with_word self.old w) self.new next.On }
+        ensures stays { result ≡ false → self.new ≡ self.old }
+        ensures words { self.new.words ≡ self.old.words }
+        ensures printed { self.new.printed ≡ self.old.printed }
+    {
+        let w = self.near(r);
+        if self.open_from(w, index, u32::from(z)) {
+            return true;
+        }
+        self.open_field_otherwise(r, index, z)
+    }
+
+    /// The same, whatever need be searched for.
+    #[inline(never)]
+    fn open_field_otherwise(&mut self, r: u8, index: u32, z: u8) -> bool
         requires given { Has (i.EnterField index z)
             (with_top (core_of self.old) (slot_at (machine_in self.old) r)) }
         ensures opens { result ≡ true → (w : WordOf)
