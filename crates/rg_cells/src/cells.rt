@@ -237,6 +237,7 @@ impl Cells {
     }
 
     /// Holds a new cell, in a slot that was held before where one is free.
+    #[inline(always)]
     pub fn make(&mut self, class: u32, label: Label, fields: &[Word]) -> Result<usize, Memory>
         ensures takes { IfOk result (λ slot. Takes self.old.heap slot) }
         ensures made { IfOk result (λ slot. Made self.old self.new slot (record {

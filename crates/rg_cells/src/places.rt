@@ -252,7 +252,7 @@ impl Places {
     }
 
     /// Holds a new cell, in a place that was held before where one is free.
-    #[inline]
+    #[inline(always)]
     pub fn hold(
         &mut self,
         alloc: Global,

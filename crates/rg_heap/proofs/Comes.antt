@@ -326,14 +326,15 @@ same_taken_back c mid cells slot b vacant mark m n e = record {
     none (x ∷ xs) zero = refl
     none (x ∷ xs) (suc k) = none xs k
 
--- a region whose record stays but for the room has the number that it had
-pub number_roomed : (t mid : RegionTable) (key n : ℕ) → IsKey t key → Rewritten t mid key as_it_is → HasNumber mid key n → HasNumber t key n
-number_roomed t mid key n k w a =
+-- a region for which room was made has room for a member
+pub room_made : (t mid : RegionTable) (key more : ℕ) → IsKey t key → Roomier t mid key (suc more) → HasRoom mid key
+room_made t mid key more k w =
     let r = record_of_key t key k in
-    let x = w.is r.0 r.1 in
-    let P : Option Record → Type 0 = λ o. option_map (λ (y : Record). y.number) o ≡ Some n in
-    let b : Some r.0.number ≡ Some n = subst P x.1 a in
-    ap (option_map (λ (y : Record). y.number)) r.1 ∙ b
+    let le = w.1 in (
+      with_room w.0 r.0,
+      ap (λ (z : RegionTable). record_at z key) w.2 ∙ changed_at t key r.0 (with_room w.0) r.1,
+      omega (arith, le),
+    )
 
 pub newest_fresh : (t mid new : RegionTable) (key : ℕ) (m : Manager) → Added t mid key (fresh t m) → new ≡ mid → IsNewest new key
 newest_fresh t mid new key m a e = (

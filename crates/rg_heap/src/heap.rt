@@ -97,6 +97,7 @@ impl Heap {
     }
 
     /// Makes an object in the active region; answers its slot.
+    #[inline(always)]
     pub fn make(&mut self, frames: &Frames, class: u32, fields: &[Word]) -> Result<usize, Memory>
         requires window { 0 < length frames.now.windows }
         requires key { OnTop frames.now (λ w. IsKey self.old.regions w.region) }

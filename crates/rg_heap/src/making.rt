@@ -29,10 +29,10 @@ pub fn make_in(
     ensures regions { OnErr result (Rewritten regions.old regions.new key as_it_is) }
     ensures grove { Grove cells.new regions.new }
 {
+    let number = regions.number(key);
     let Ok(()) = regions.reserve(key, 1) else {
         return Err(Memory);
     };
-    let number = regions.number(key);
     let Ok(slot) = cells.make(class, Label::Region(number), fields) else {
         return Err(Memory);
     };

@@ -119,6 +119,23 @@ fn write_leading(cells: &mut Cells, regions: &Regions, key: usize, slot: usize, 
     write_counted(cells, regions, key, slot, k, w);
 }
 
+// Writes a field that will lead to an object.
+#[inline(always)]
+fn write_reference(cells: &mut Cells, regions: &Regions, key: usize, slot: usize, k: u32, to: usize)
+    requires grove { Grove cells.old regions.now }
+    requires key { IsKey regions.now key }
+    requires width { k < width (body_at cells.old.heap slot) }
+    requires place { MayWrite cells.old.heap regions.now key slot (Word.Slot to) }
+    ensures heap { cells.new.heap ≡ with_field cells.old.heap slot k (Word.Slot to) }
+    ensures grove { Grove cells.new regions.now }
+{
+    let Manager::Count = regions.manager(key) else {
+        cells.set_field(slot, k, Word::Slot(to));
+        return;
+    };
+    write_counted(cells, regions, key, slot, k, Word::Slot(to));
+}
+
 /// Writes a field of a cell of the region of a key, or of a temporary. Whether the region counts
 /// isn't asked where neither what stood there nor what is written leads to an object.
 #[inline(always)]
@@ -130,6 +147,10 @@ pub fn write_field(cells: &mut Cells, regions: &Regions, key: usize, slot: usize
     ensures heap { cells.new.heap ≡ with_field cells.old.heap slot k w }
     ensures grove { Grove cells.new regions.now }
 {
+    if let Word::Slot(to) = w {
+        write_reference(cells, regions, key, slot, k, to);
+        return;
+    }
     if leads_nowhere(w) {
         if leads_nowhere(cells.field(slot, k)) {
             cells.set_field(slot, k, w);

@@ -1,4 +1,4 @@
-use Rattle.rg_heap.proofs.Comes.{rewritten_same, grove_roomed, rewritten_room, rewritten_member, grove_member, number_roomed}
+use Rattle.rg_heap.proofs.Comes.{rewritten_same, grove_roomed, rewritten_room, rewritten_member, grove_member, room_made}
 use Rattle.rg_heap.proofs.making.make_in.Goals as goal
 
 pub returns-in_default-clause-regions : goal.returns-in_default-clause-regions
@@ -10,6 +10,9 @@ returns-in_default-make-clause-grove c =
     let mid = c.reserve.new.self in
     grove_roomed c.args.cells.now t c.make.new.self mid c.args.key c.requires.grove c.requires.key c.in_default-make.ensures.err
     (rewritten_room t mid c.args.key 1 c.in-Ok.ensures.ok)
+
+pub push_member-requires : goal.push_member-requires
+push_member-requires c = room_made c.args.regions.now c.reserve.new.self c.args.key 0 c.requires.key c.in-Ok.ensures.ok
 
 pub returns-clause-member : goal.returns-clause-member
 returns-clause-member c =
@@ -24,7 +27,6 @@ returns-clause-grove c =
     let x = c.in-Ok-make.ensures in
     let slot = c.in-Ok-make.slot in
     grove_member c.args.cells.now t c.make.new.self c.push_member.new.self key c.number-number.result slot c.args.class c.args.fields.now
-    c.requires.grove (number_roomed t mid key c.number-number.result c.requires.key (rewritten_room t mid key 1 c.in-Ok.ensures.ok)
-    c.number-number.ensures)
+    c.requires.grove c.number-number.ensures
     c.requires.plain (record { takes = x.takes; made = x.made; next = x.next; high = x.high })
     (rewritten_member t mid c.push_member.new.self key 1 slot c.in-Ok.ensures.ok c.push_member.ensures) c.requires.key
