@@ -2,7 +2,7 @@
 //! where it does (docs/language.md, "Steps").
 
 ghost use Rattle.std.specs.Prelude.{◌≡◌, ◌⊎◌, ◌+◌, ◌-◌, ◌^◌, ◌<◌, ◌≤◌, ℕ, List, Option, Err};
-ghost use Rattle.std.specs.Prelude.{length, take};
+ghost use Rattle.std.specs.Prelude.{false, length, take, true};
 ghost use Rattle.rg_io.specs.Content.{Rose};
 ghost use Rattle.rg_run.specs.Inner.{Gives, IsLent, behind, ended_by};
 ghost use Rattle.rg_run.specs.Reports.{Reports};
@@ -22,6 +22,17 @@ pub(crate) fn counted(steps: u64, outcome: Outcome) -> u64
     match outcome {
         Outcome::Running | Outcome::Printed(_) | Outcome::Done => steps + 1,
         Outcome::Trap { .. } | Outcome::InputFault | Outcome::Memory => steps,
+    }
+}
+
+/// Whether nothing is given of a step: it went on and printed nothing, and no report is asked for.
+#[inline(always)]
+fn is_quiet(task: &Task<'_>, outcome: Outcome) -> bool
+    ensures { result ≡ true → (outcome ≡ Outcome.Running) × (task.now.report ≡ false) }
+{
+    match outcome {
+        Outcome::Running => !task.report,
+        _ => false,
     }
 }
 
@@ -50,6 +61,9 @@ pub(crate) fn give<O: Sink, R: Sink>(
     ensures notes_never_fall { R.faults sinks.old.notes.now ≤ R.faults sinks.new.notes.now }
     ensures lent { IsLent sinks.old sinks.new }
 {
+    if is_quiet(task, outcome) {
+        return Ok(());
+    }
     match outcome {
         Outcome::Running => tell(task, events, told, sinks.notes),
         Outcome::Printed(value) => match put_value(sinks.out, value) {

@@ -40,7 +40,7 @@ use Rattle.rg_step.proofs.Callers.Serve.{has-record}
 -- By the store that is shown
 
 -- a machine that stays frees nothing
-still-frees : (old new : Machine) → new ≡ old → StoreFrees old new
+pub still-frees : (old new : Machine) → new ≡ old → StoreFrees old new
 still-frees old new same serial o was live away =
     absurd (live (away o (ap (λ (m : Machine). slice_get m.store serial) same ∙ was)))
 
@@ -67,7 +67,7 @@ goes-frees code old new (t, p, r) goes =
 -- What is gone stays so
 
 -- nothing changes
-same-gone : (old new : Machine) → new ≡ old → StoreStays old.store new.store
+pub same-gone : (old new : Machine) → new ≡ old → StoreStays old.store new.store
 same-gone old new same a e = ap (λ (m : Machine). slice_get m.store a) same ∙ e
 
 -- behind a step

@@ -3,3 +3,4 @@ pub mod Asking
 pub mod KnownSteps
 pub mod Making
 pub mod Pass
+pub mod Paced

@@ -25,9 +25,10 @@ mod content;
 use crate::collecting::{follow, is_made};
 use crate::kept::{Kept, Since};
 use crate::leap::leap;
+use crate::making::make_paced;
 use crate::outcome::outcome;
 use rg_base::{EndNumbers, Event, Manager, Memory, Outcome, Seen};
-use rg_code::CodeList;
+use rg_code::{CodeList, Shape};
 use rg_compute::Stack;
 use rg_frames::Frames;
 use rg_heap::{Active, Heap};
@@ -259,7 +260,11 @@ impl Stepper {
         let Some(p) = &mut self.machine else {
             unreachable!();
         };
-        let due = code.due_at(p.at());
+        let at = p.at();
+        if let Shape::New { s, class } = code.shape(at) {
+            return make_paced(p, code, s, class, &mut self.kept, count, trace);
+        }
+        let due = code.due_at(at);
         p.is_sound();
         let outcome = outcome(p, code, due, &mut self.kept.events, input, source);
         p.is_sound();

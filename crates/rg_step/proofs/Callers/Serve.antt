@@ -58,7 +58,7 @@ pub fits-behind : (t : Tree) (code : Code) (m : Machine) (p q : State) (result :
 fits-behind t code m p q result r made s =
     (step-keeps t p q r.accepted r.fits (made-went (next t.classes p) p q result made s)).fit
 
-once-stepped : (code : Code) (old mid : Machine) (result : Outcome) (before after : List ℕ) → IsRunning code old → is_made result ≡ true
+pub once-stepped : (code : Code) (old mid : Machine) (result : Outcome) (before after : List ℕ) → IsRunning code old → is_made result ≡ true
     → StepsOn code old mid result before after → owned_once mid ≡ true
 once-stepped code old mid result before after (t, p, r) made steps =
     let here = with-input t code old p before r in

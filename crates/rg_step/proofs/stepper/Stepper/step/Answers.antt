@@ -1,6 +1,6 @@
 -- Each end of a step, by the lemma that makes its record.
 use Rattle.std.proofs.Common.{◌≡◌, ◌∙◌, true, false, subst, sym, refl, ap}
-use Rattle.rg_input.proofs.Input.{OnInput-map}
+use Rattle.rg_input.proofs.Input.{OnInput-map, OnInput-still}
 use Rattle.rg_code.specs.Dues.{due_at}
 use Rattle.rg_machine.specs.Parts.{machine_in}
 use Rattle.rg_step.specs.Inner.Serving.{is_asked}
@@ -29,7 +29,15 @@ pub outcome-outcome-requires-clause-rests : goal.outcome-outcome-requires-clause
 outcome-outcome-requires-clause-rests g c = rests-some c.self.inside.machine c.in-Some.p c.in-Some.is c.self.invariant.0
 
 pub outcome-outcome-requires-clause-due : goal.outcome-outcome-requires-clause-due
-outcome-outcome-requires-clause-due g c = c.due_at-due.ensures ∙ ap (due_at c.args.code.now.ops) c.at.ensures
+outcome-outcome-requires-clause-due g c = c.due_at-due.ensures ∙ ap (due_at c.args.code.now.ops) c.at-at.ensures
+
+-- one that makes an object
+
+pub returns-in-New-clause-step : goal.returns-in-New-clause-step
+returns-in-New-clause-step g c =
+    let code = c.args.code.now in
+    rw (← shows-some c.self.inside.machine c.in-Some.p c.self.inside.kept c.args.self.now c.in-Some.is c.self.view_is)
+    (OnInput-still _ _ _ _ (OneStep code _ _ c.make_paced.result) refl refl c.make_paced.ensures.step)
 
 -- a step that was refused
 
@@ -51,7 +59,7 @@ returns-then-not-is_made-clause-step g c =
       forest = c.is_sound-2.ensures.forest;
       windows = c.is_sound-2.ensures.windows;
     }) refl
-    (λ asked. did.still (ap is_asked (c.due_at-due.ensures ∙ ap (due_at code.ops) c.at.ensures ∙ asked))) no
+    (λ asked. did.still (ap is_asked (c.due_at-due.ensures ∙ ap (due_at code.ops) c.at-at.ensures ∙ asked))) no
     (record {
       shown = did.refused no;
       events_are = c.outcome-outcome.ensures.events;
@@ -102,7 +110,7 @@ returns-clause-step g c =
       forest = c.is_sound-2.ensures.forest;
       windows = c.is_sound-2.ensures.windows;
     })
-    c.due_at-due.result (sym (c.due_at-due.ensures ∙ ap (due_at code.ops) c.at.ensures)) c.outcome-outcome.new.events.items
+    c.due_at-due.result (sym (c.due_at-due.ensures ∙ ap (due_at code.ops) c.at-at.ensures)) c.outcome-outcome.new.events.items
     c.outcome-outcome.ensures.events (c.follow.ensures.serves c.in-Some.p)
     (record {
       stands = c.is_sound-3.ensures.stands;
