@@ -1,9 +1,9 @@
 #!/usr/bin/env bash
 # How long `reggio run` takes to read a number, by how many it reads: 1,000 to 1,000,000 numbers of six digits, which a
 # program adds up. For each size it prints processor nanoseconds for a turn of its loop, for the turn of a loop that takes its
-# numbers from a variable, and how far the one is above the other: that should be within 3. Beside them stands the same
-# program in Lua 5.4 and in LuaJIT's interpreter (bench/lua), by `io.read("n")`, where these are installed; all take turns.
-# The slowest size should be within 1.3 of the fastest.
+# numbers from a variable, and how far the one is above the other. Beside them stands the same program in Lua 5.4 and in
+# LuaJIT's interpreter (bench/lua), by `io.read("n")`, where these are installed: it should take at most 0.6 of their time.
+# All take turns. The slowest size should be within 1.3 of the fastest.
 # Then what is typed is answered: through a pipe that stays open comes a number with the end of its line, and the line
 # that the program prints of it must come back before the next number is written. It prints how long that takes.
 # Last, where standard input is closed before the start, the source must not be read as the input.
