@@ -738,13 +738,31 @@ fn make_nil(part: &mut [Word])
     part[2] = Word::Nil;
 }
 
-// The same, however many there are.
+// The same of more than three: up to seven of them by hand.
 #[inline(never)]
 fn make_all_nil(part: &mut [Word])
+    requires { 3 < length part.old }
     ensures { part.new ≡ replicate (length part.old) Nil }
 {
-    let mut at = part.len();
-    'nil: while at > 0 {
+    let many = part.len();
+    part[0] = Word::Nil;
+    part[1] = Word::Nil;
+    part[2] = Word::Nil;
+    part[3] = Word::Nil;
+    if many < 5 {
+        return;
+    }
+    part[4] = Word::Nil;
+    if many < 6 {
+        return;
+    }
+    part[5] = Word::Nil;
+    if many < 7 {
+        return;
+    }
+    part[6] = Word::Nil;
+    let mut at = many;
+    'nil: while at > 7 {
         at -= 1;
         part[at] = Word::Nil;
     }
