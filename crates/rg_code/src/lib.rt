@@ -21,6 +21,7 @@ mod operands;
 mod shape;
 mod shapes;
 mod sums;
+mod targets;
 mod texts;
 mod turns;
 mod whole;
