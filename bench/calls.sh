@@ -22,6 +22,7 @@ FIELDS = {"CountedRun": ("ended", "Ended")}
 # These say yes, or tell something, only to be quick: their other answer may come at any time, and callers go the long way.
 FREE = {
     "rg_code::CodeList::known": "None", "rg_code::CodeList::shapes": "None", "rg_code::CodeList::loops": "None",
+    "rg_code::CodeList::target": "None",
     "rg_regions::Regions::hinted_key": "None", "rg_frames::Frames::open_window": "false",
     "rg_heap::Heap::hinted_region": "None",
     "rg_heap::Heap::is_at_home": "false", "rg_machine::Machine::behind": "None",

@@ -2,9 +2,9 @@
 //! "Instructions and lowering"). `CodeList` is a list of `Op` with openings, entries and main's
 //! number of slots: what a call changes is exact, and a refused one leaves it as it was.
 //! `find_shapes` changes nothing of that; `shape` says what stands at an address, where it is known
-//! (`IsShape`). `number_of`, `name_of` and `operands_of` say what stands in an instruction
-//! (`specs/Operands`), and `above` which slots it needs. `listing` gives the text of
-//! `specs/Listing`; `specs/Lowering` has a tree's code.
+//! (`IsShape`), and `target` where the calls of a method go (`IsTarget`). `number_of`, `name_of` and
+//! `operands_of` say what stands in an instruction (`specs/Operands`), and `above` which slots it
+//! needs. `listing` gives the text of `specs/Listing`; `specs/Lowering` has a tree's code.
 #![tactic(auto)]
 
 mod code;
@@ -21,6 +21,7 @@ mod operands;
 mod shape;
 mod shapes;
 mod sums;
+mod targets;
 mod texts;
 mod turns;
 mod whole;
