@@ -20,6 +20,28 @@ impl Model for ByteList {
     ghost view = { λ b. b.bytes.items };
 }
 
+/// The list of these bytes; takes no memory.
+impl From<Vec<u8>> for ByteList {
+    ghost use Rattle.std.specs.Prelude.{◌≡◌};
+
+    ghost from_gives = { λ bytes list. list ≡ bytes.items };
+
+    fn from(bytes: Vec<u8>) -> ByteList {
+        ByteList { bytes }
+    }
+}
+
+/// The bytes of the list; takes no memory.
+impl From<ByteList> for Vec<u8> {
+    ghost use Rattle.std.specs.Prelude.{◌≡◌};
+
+    ghost from_gives = { λ list bytes. bytes.items ≡ list };
+
+    fn from(list: ByteList) -> Vec<u8> {
+        list.bytes
+    }
+}
+
 impl ByteList {
     /// The empty list.
     pub fn new(alloc: Global) -> ByteList

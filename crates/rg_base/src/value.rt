@@ -50,6 +50,28 @@ impl Model for Vals {
     ghost view = { λ v. v.items.items };
 }
 
+/// The list of these values; takes no memory.
+impl From<Vec<Val>> for Vals {
+    ghost use Rattle.std.specs.Prelude.{◌≡◌};
+
+    ghost from_gives = { λ values list. list ≡ values.items };
+
+    fn from(items: Vec<Val>) -> Vals {
+        Vals { items }
+    }
+}
+
+/// The values of the list; takes no memory.
+impl From<Vals> for Vec<Val> {
+    ghost use Rattle.std.specs.Prelude.{◌≡◌};
+
+    ghost from_gives = { λ list values. values.items ≡ list };
+
+    fn from(list: Vals) -> Vec<Val> {
+        list.items
+    }
+}
+
 impl Vals {
     /// The empty list.
     pub fn new(alloc: Global) -> Vals

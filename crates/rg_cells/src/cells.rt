@@ -290,6 +290,14 @@ impl Cells {
         self.places.step_back();
     }
 
+    /// Whether a slot holds a cell.
+    pub fn is_held(&self, slot: usize) -> bool
+        ensures yes { result ≡ true → IsHeld self.now.heap slot }
+        ensures no { IsHeld self.now.heap slot → result ≡ true }
+    {
+        self.places.is_held(slot)
+    }
+
     /// The slot of the held cell with a serial.
     pub fn find(&self, serial: u64) -> Option<usize>
         ensures some { IfSome result (λ slot. HasSerial self.now.heap slot serial) }

@@ -1,6 +1,6 @@
 //! The places of the cells (docs/architecture.md, "Cells").
 
-ghost use Rattle.std.specs.Prelude.{◌≡◌, ◌+◌, ◌-◌, ◌^◌, ◌<◌, ◌∷◌, ◌++◌, [], ℕ, Some, false};
+ghost use Rattle.std.specs.Prelude.{◌≡◌, ◌+◌, ◌-◌, ◌^◌, ◌<◌, ◌∷◌, ◌++◌, [], ℕ, Some, true, false};
 ghost use Rattle.std.specs.Prelude.{IfSome, IfNone, IfOk, OnOk, OnErr, length, option_map};
 ghost use Rattle.std.specs.Prelude.{slice_set};
 ghost use Rattle.rg_cells.specs.declared.cell.Body.{Body as BodyOf};
@@ -332,6 +332,17 @@ impl Places {
             return;
         };
         drop_list(&mut self.cells, &mut self.beside, at);
+    }
+
+    /// Whether a slot holds a cell.
+    pub fn is_held(&self, slot: usize) -> bool
+        ensures yes { result ≡ true → IsHeld self.now.heap slot }
+        ensures no { IsHeld self.now.heap slot → result ≡ true }
+    {
+        match self.cells.get(slot) {
+            Some(cell) => cell.is_held(),
+            None => false,
+        }
     }
 
     /// The slot of the held cell with a serial.

@@ -1,6 +1,6 @@
 //! What calls of the heap answer (docs/architecture.md, "The heap").
 
-use rg_base::Manager;
+use rg_base::{Label, Manager};
 
 /// Why a call was refused: nil was followed, or no memory was found.
 #[derive(Clone, Copy)]
@@ -26,4 +26,14 @@ pub struct Collected {
     pub held: u64,
     pub kept: u64,
     pub released: u64,
+}
+
+/// A held cell without its fields: its serial, its class, to what it belongs, and how many fields it
+/// has.
+#[derive(Clone, Copy)]
+pub struct Held {
+    pub serial: u64,
+    pub class: u32,
+    pub label: Label,
+    pub fields: u32,
 }

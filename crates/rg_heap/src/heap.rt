@@ -1,7 +1,7 @@
 //! The heap: cells and regions (docs/architecture.md, "The heap").
 
 ghost use Rattle.std.specs.Prelude.{◌≡◌, ◌<◌, ℕ, [], true, false, IfOk, OnErr, length, option_map};
-ghost use Rattle.std.specs.Prelude.{IfSome};
+ghost use Rattle.std.specs.Prelude.{IfSome, None};
 ghost use Rattle.std.specs.Prelude.{Some, Err, ◌⊎◌, ◌≤◌, ◌↔◌, ◌+◌, ◌*◌, ◌^◌, drop, sum_by};
 ghost use Rattle.rg_base.specs.declared.object.Label.TheVariants.{Region, Temp};
 ghost use Rattle.rg_cells.specs.declared.cell.Body.{Body as BodyOf};
@@ -29,7 +29,7 @@ ghost use Rattle.rg_heap.specs.Answers.{LeadsIntoClosed};
 mod cargo;
 mod giving;
 
-use crate::answers::{Active, Collected, Refusal};
+use crate::answers::{Active, Collected, Held, Refusal};
 use crate::collecting::collect_by;
 use crate::ending::{end_temps, release_one};
 use crate::making::{make_bridge, make_in};
@@ -546,6 +546,29 @@ impl Heap {
             fields,
             label: self.cells.label(slot),
         }))
+    }
+
+    /// The cell that a slot holds; None where it holds none.
+    pub fn at(&self, slot: usize) -> Option<Held>
+        ensures none { result ≡ None → IsHeld self.now.cells.heap slot → ⊥ }
+        ensures serial { IfSome result (λ held. option_map (λ (b : BodyOf). b.serial)
+            (body_at self.now.cells.heap slot) ≡ Some held.serial) }
+        ensures class { IfSome result (λ held. option_map (λ (b : BodyOf). b.class)
+            (body_at self.now.cells.heap slot) ≡ Some held.class) }
+        ensures label { IfSome result (λ held. label_at self.now.cells.heap slot
+            ≡ Some held.label) }
+        ensures fields { IfSome result (λ held. held.fields
+            ≡ width (body_at self.now.cells.heap slot)) }
+    {
+        if !self.cells.is_held(slot) {
+            return None;
+        }
+        Some(Held {
+            serial: self.cells.serial(slot),
+            class: self.cells.class(slot),
+            label: self.cells.label(slot),
+            fields: self.cells.field_count(slot),
+        })
     }
 
     /// The numbers of the heap.

@@ -13,5 +13,5 @@ mod reading;
 mod sliding;
 mod writing;
 
-pub use answers::{Active, Collected, Refusal};
+pub use answers::{Active, Collected, Held, Refusal};
 pub use heap::Heap;

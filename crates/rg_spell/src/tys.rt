@@ -21,6 +21,28 @@ impl Model for Tys {
     ghost view = { λ t. t.types.items };
 }
 
+/// The list of these types; takes no memory.
+impl From<Vec<Ty>> for Tys {
+    ghost use Rattle.std.specs.Prelude.{◌≡◌};
+
+    ghost from_gives = { λ types list. list ≡ types.items };
+
+    fn from(types: Vec<Ty>) -> Tys {
+        Tys { types }
+    }
+}
+
+/// The types of the list; takes no memory.
+impl From<Tys> for Vec<Ty> {
+    ghost use Rattle.std.specs.Prelude.{◌≡◌};
+
+    ghost from_gives = { λ list types. types.items ≡ list };
+
+    fn from(list: Tys) -> Vec<Ty> {
+        list.types
+    }
+}
+
 impl Tys {
     /// The empty list.
     pub fn new(alloc: Global) -> Tys

@@ -20,4 +20,5 @@ mod stopped;
 mod turn;
 mod walk;
 
+pub use rg_opening::Given;
 pub use stepper::Stepper;

@@ -8,9 +8,8 @@ use Rattle.rg_base.specs.declared.object.Seen.{Seen}
 use Rattle.rg_base.specs.declared.object.Label.{Label}
 use Rattle.rg_base.specs.declared.object.Label.TheVariants.{Region, Temp, Frozen}
 use Rattle.rg_tree.specs.Tree.{Class}
-use Rattle.rg_rules.specs.Regions.{address, region_at, owned_by, among, in_regions, led_from, joined_with}
+use Rattle.rg_rules.specs.Regions.{region_at, owned_by, among, in_regions, led_from, joined_with}
 use Rattle.rg_store.proofs.Callers.Label.{some-below}
-use Rattle.rg_store.specs.Links.{led_by_labels}
 use Rattle.rg_store.specs.Regions.{is_marked, AreMarked, LabelFits, LabelsFit}
 
 pub or-false : (a : Bool) → a || false ≡ a
@@ -126,15 +125,6 @@ led-append cs st f (o ∷ os) ys =
     rw (led-append cs st f os ys)
     (led-append_by (f o.label) (filter_map (region_at st) (owned_by cs o)) (led_from cs st f os) (led_from cs st f ys))
 
--- the same by labels
-pub labels-append : (st xs ys : List Seen) (r : ℕ) →
-    led_by_labels st (xs ++ ys) r ≡ led_by_labels st xs r ++ led_by_labels st ys r
-labels-append st [] ys r = refl
-labels-append st (o ∷ os) ys r =
-    rw (labels-append st os ys r)
-    (led-append_by (in_regions (r ∷ []) o.label) (filter_map (region_at st) (filter_map address o.fields)) (led_by_labels st os r)
-    (led_by_labels st ys r))
-
 in_regions-cons : (r : ℕ) (rs : List ℕ) (l : Label) → in_regions (r ∷ rs) l ≡ in_regions (r ∷ []) l || in_regions rs l
 in_regions-cons r rs (Region q) = among-cons r rs q ∙ ap (λ b. b || among rs q) (sym (among-one r q))
 in_regions-cons r rs (Temp n) = refl
@@ -188,10 +178,3 @@ led-fits count cs st f [] fits = All-nil (λ r. r < count)
 led-fits count cs st f (o ∷ os) fits =
     led-fits_by count (f o.label) (filter_map (region_at st) (owned_by cs o)) (led_from cs st f os)
     (All-answers (λ r. r < count) (region_at st) (owned_by cs o) (λ a r is. region-fits count st fits a r is)) (led-fits count cs st f os fits)
-
-pub labels-fit : (count : ℕ) (st os : List Seen) (r : ℕ) → LabelsFit count st → All (λ q. q < count) (led_by_labels st os r)
-labels-fit count st [] r fits = All-nil (λ q. q < count)
-labels-fit count st (o ∷ os) r fits =
-    led-fits_by count (in_regions (r ∷ []) o.label) (filter_map (region_at st) (filter_map address o.fields)) (led_by_labels st os r)
-    (All-answers (λ q. q < count) (region_at st) (filter_map address o.fields) (λ a q is. region-fits count st fits a q is))
-    (labels-fit count st os r fits)

@@ -13,10 +13,3 @@ listed lists r = slice_index_or (map (λ v. v.items) lists) r []
 abbrev pub linked : (lists : ℕ → List ℕ) → (links : ℕ) → List ℕ → List ℕ
 linked lists zero regions = regions
 linked lists (suc k) regions = linked lists k (joined_with regions (flat_map lists regions))
-
--- the regions to which fields lead, whatever their types, in those of some objects that lie in one region
-abbrev pub led_by_labels : (store : List Seen) → List Seen → (r : ℕ) → List ℕ
-led_by_labels store [] r = []
-led_by_labels store (o ∷ os) r =
-    if in_regions (r ∷ []) o.label then filter_map (region_at store) (filter_map address o.fields) ++ led_by_labels store os r
-    else led_by_labels store os r

@@ -11,8 +11,8 @@ mod objects;
 mod operators;
 
 pub use labels::{Regions, region, region_at, region_led, relabel};
-pub use made::{new_array, new_object, push_object};
-pub use marks::{beneath, beneath_by_labels, linked};
+pub use made::{new_array, new_object};
+pub use marks::{beneath, linked};
 pub use objects::{
     ObjectRow, element_place, element_value, field_at, field_value, follow, object_place, read_at,
     write_at, write_field,

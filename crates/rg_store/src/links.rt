@@ -10,7 +10,7 @@ ghost use Rattle.rg_rules.specs.Capabilities.{is_iso};
 ghost use Rattle.rg_rules.specs.Regions.{address, in_regions, led_from, owned, owned_in, region_at};
 ghost use Rattle.rg_rules.specs.Types.{fields_of, type_of};
 ghost use Rattle.rg_store.specs.Inner.Found.{AreLinks, links_in};
-ghost use Rattle.rg_store.specs.Links.{led_by_labels, listed};
+ghost use Rattle.rg_store.specs.Links.{listed};
 ghost use Rattle.rg_store.specs.Regions.{LabelFits, LabelsFit};
 ghost use Rattle.rg_store.specs.Shown.{AreOfClasses, seen_of, store_of};
 
@@ -169,54 +169,6 @@ pub(crate) fn all_links(
     let mut led = empty_lists(alloc, count)?;
     for object in store {
         add_object(book, store, object, &mut led)?;
-    }
-    Ok(led)
-}
-
-/// Adds the regions to which values lead.
-fn add_all_led(store: &[ObjectRow], links: &mut Vec<u64>, values: &[Val]) -> Result<(), Memory>
-    ensures { OnOk result (links.new.items ≡ links.old.items ++ filter_map
-        (region_at (store_of store.now)) (filter_map address values.now)) }
-{
-    for value in values {
-        add_led(store, links, *value)?;
-    }
-    Ok(())
-}
-
-/// Adds the regions to which the fields of an object lead to the list of its own region.
-fn add_by_label(
-    store: &[ObjectRow],
-    object: &ObjectRow,
-    led: &mut Vec<Vec<u64>>,
-) -> Result<(), Memory>
-    requires label { LabelFits (length led.old.items) object.now.label }
-    ensures count { length led.new.items ≡ length led.old.items }
-    ensures added { OnOk result ((r : ℕ) → listed led.new.items r ≡ listed led.old.items r
-        ++ led_by_labels (store_of store.now) (seen_of object.now ∷ []) r) }
-{
-    let Some(region) = region(object.label) else {
-        return Ok(());
-    };
-    let links = &mut led[region as usize];
-    add_all_led(store, links, &object.fields)?;
-    Ok(())
-}
-
-/// For each region, those to which fields lead from it, whatever their types.
-pub(crate) fn links_by_labels(
-    alloc: Global,
-    store: &[ObjectRow],
-    count: usize,
-) -> Result<Vec<Vec<u64>>, Memory>
-    requires labels { LabelsFit count (store_of store.now) }
-    ensures count { IfOk result (λ led. length led.items ≡ count) }
-    ensures led { IfOk result (λ led. (r : ℕ) →
-        listed led.items r ≡ led_by_labels (store_of store.now) (store_of store.now) r) }
-{
-    let mut led = empty_lists(alloc, count)?;
-    for object in store {
-        add_by_label(store, object, &mut led)?;
     }
     Ok(led)
 }

@@ -16,34 +16,6 @@ use rg_names::Book;
 use rg_tree::{MemberRow, TypeRow};
 use std::alloc::Global;
 
-/// Adds an object with its fields, whose serial is the number of those before it.
-pub fn push_object(
-    alloc: Global,
-    store: &mut Vec<ObjectRow>,
-    class: u32,
-    fields: &[Val],
-    label: Label,
-) -> Result<(), Memory>
-    ensures pushed { OnOk result (store_of store.new.items
-        ≡ store_of store.old.items ++ object_of class fields.now label ∷ []) }
-    ensures refused { OnErr result (store.new.items ≡ store.old.items) }
-    ensures labels { (count : ℕ) → LabelFits count label →
-        LabelsFit count (store_of store.old.items) → LabelsFit count (store_of store.new.items) }
-{
-    let mut values = Vec::new(alloc);
-    let Ok(()) = values.extend_from_slice(fields) else {
-        return Err(Memory);
-    };
-    let Ok(()) = store.push(ObjectRow {
-        class,
-        fields: values,
-        label,
-    }) else {
-        return Err(Memory);
-    };
-    Ok(())
-}
-
 /// The value with which a field of a type starts.
 fn opening_value(ty: TypeRow) -> Val
     ensures { (t : Tables) → result ≡ opening_value (type_of t ty) }

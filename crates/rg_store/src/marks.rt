@@ -6,11 +6,11 @@ ghost use Rattle.std.specs.Prelude.{flat_map, length, ℕ};
 ghost use Rattle.rg_tree.specs.Rows.RowTrees.{classes_of};
 ghost use Rattle.rg_rules.specs.Regions.{beneath};
 ghost use Rattle.rg_store.specs.Inner.Found.{FindsToo};
-ghost use Rattle.rg_store.specs.Links.{led_by_labels, linked, listed};
+ghost use Rattle.rg_store.specs.Links.{linked, listed};
 ghost use Rattle.rg_store.specs.Regions.{AreMarked, LabelsFit};
 ghost use Rattle.rg_store.specs.Shown.{AreOfClasses, store_of};
 
-use crate::links::{all_links, links_by_labels};
+use crate::links::all_links;
 use crate::objects::ObjectRow;
 use rg_base::Memory;
 use rg_names::Book;
@@ -121,22 +121,5 @@ pub fn beneath(
         (beneath (classes_of book.now.program) (store_of store.now) count (region ∷ []))) }
 {
     let led = all_links(alloc, book, store, count)?;
-    linked(alloc, &led, region)
-}
-
-/// The same where links are all references from a region, whatever their types: it needs no class
-/// table.
-pub fn beneath_by_labels(
-    alloc: Global,
-    store: &[ObjectRow],
-    count: usize,
-    region: u64,
-) -> Result<Vec<bool>, Memory>
-    requires labels { LabelsFit count (store_of store.now) }
-    requires there { region < count }
-    ensures { IfOk result (λ marks. let objects = store_of store.now in AreMarked marks.items
-        (linked (led_by_labels objects objects) count (region ∷ []))) }
-{
-    let led = links_by_labels(alloc, store, count)?;
     linked(alloc, &led, region)
 }
