@@ -101,6 +101,7 @@ module _ (t u : Tree) (e : SameButLines t u) (input : List ℕ) where
     due = sym (same-due h.before) ∙ h.due;
     region = h.region ∙ ap (λ (s : State). active s.windows) (same-state (h.before + 1));
     manager = subst (λ (s : State). IsManaged s v.manager) (same-state (h.before + 1)) h.manager;
+    collects = h.collects;
     kept = λ traced. h.kept traced ∙ ap (λ (s : State). length (plain_reach s)) (same-state (h.before + 1));
   }
 

@@ -30,6 +30,7 @@ use Rattle.rg_step.proofs.Callers.Told.{EventTold, asked-told, event-told}
 use Rattle.rg_run.specs.Collected.{IsManaged, Tells, Told}
 use Rattle.rg_run.specs.Inner.{Adds, OneMore, behind}
 use Rattle.rg_run.proofs.Ask.{at}
+use Rattle.rg_run.proofs.Collects.{event-collects}
 use Rattle.rg_run.proofs.Report.{step-adds}
 use Rattle.rg_run.proofs.Turn.{Between, leapt}
 
@@ -96,8 +97,8 @@ module _ (t : Tree) (input : List ℕ) (k : ℕ) (old new : List Event) (so_far 
 
   -- one step more, with this state before it and that one behind it
   module _ (p q : State) (before : (plain t input k).state ≡ p) (after : (plain t input (k + 1)).state ≡ q) where
-    told-at : (e : Event) → EventTold t p q (k + 1) e → Told t input e
-    told-at e h =
+    told-at : (e : Event) → EventTold t p q (k + 1) e → e.manager ≢ Arena → Told t input e
+    told-at e h collects =
         let P : State → Type 0 = λ s. first_due t.classes s.items ≡ Some e.cause in
         let R : State → Type 0 = λ s. e.region ≡ active s.windows in
         let M : State → Type 0 = λ s. IsManaged s e.manager in
@@ -108,13 +109,15 @@ module _ (t : Tree) (input : List ℕ) (k : ℕ) (old new : List Event) (so_far 
           due = subst P (sym before) h.due;
           region = subst R (sym after) h.region;
           manager = subst M (sym after) h.manager;
+          collects = collects;
           kept = (subst K (sym after) h).kept;
         }
 
     pub tells-next : OneMore (k + 1) old new → ((e : Event) → new ≡ old ++ e ∷ [] → EventTold t p q (k + 1) e) →
+        ((e : Event) → new ≡ old ++ e ∷ [] → e.manager ≢ Arena) →
         (first_due t.classes p.items ≡ Some Asked → (m : Manager) → IsManaged q m → m ≢ Arena → (e : Event) × (new ≡ old ++ e ∷ [])) →
         Tells t input (k + 1) new
-    tells-next (inl same) event asked = tells-still (k + 1) (omega arith) same (λ i m from less due managed never.
+    tells-next (inl same) event collects asked = tells-still (k + 1) (omega arith) same (λ i m from less due managed never.
         let here : i ≡ k = omega (arith, from, less) in
         let D : ℕ → Type 0 = λ n. first_due t.classes (plain t input n).state.items ≡ Some Asked in
         let M : ℕ → Type 0 = λ n. IsManaged (plain t input (n + 1)).state m in
@@ -122,9 +125,9 @@ module _ (t : Tree) (input : List ℕ) (k : ℕ) (old new : List Event) (so_far 
         let N : State → Type 0 = λ s. IsManaged s m in
         let e = asked (subst E before (subst D here due)) m (subst N after (subst M here managed)) never in
         longer old e.0 (sym same ∙ e.1))
-    tells-next (inr (e, is, number)) event asked = subst (Tells t input (k + 1)) (sym is) (record {
+    tells-next (inr (e, is, number)) event collects asked = subst (Tells t input (k + 1)) (sym is) (record {
       each = λ i d at. elim (last-or old e d i at) [
-        | inl (last, end) ↦ subst (Told t input) last (told-at e (event e is))
+        | inl (last, end) ↦ subst (Told t input) last (told-at e (event e is) (collects e is))
         | inr (there, less) ↦ so_far.each i d there
       ];
       within = λ i d at. elim (last-or old e d i at) [
@@ -173,6 +176,7 @@ module _ (t : Tables) (code : Code) (k : ℕ) (old new : Standing) (taken out : 
       tells-next p before k old.stepper.events new.stepper.events so_far b.state q (ap (λ x. x.state) b.so_far.ran_is)
       (state-next p before k b.state q b.so_far.ran_is b.so_far.some went) (subst M number more)
       (subst E number (event-told p code old new r between end made one b.state q b.runs b.input went))
+      (event-collects code old new r between end made one)
       (asked-told p code old new r between end made one b.state q b.runs b.input went)
 
   pub tells-by : (end : List ℕ) (r : Outcome) → OneStep code old new r between end → Tells (program_of t) before (behind k r) new.stepper.events
@@ -209,4 +213,4 @@ tells-leapt t code k (suc j) m new Still before between old out events b h so_fa
     subst P same
     (tells-next p before (k + j) events events (tells-leapt t code k j m h.0 Still before between old out events b h.1 so_far) c.state q.0
     (ap (λ x. x.state) c.so_far.ran_is) (state-next p before (k + j) c.state q.0 c.so_far.ran_is c.so_far.some q.1.0) (inl refl)
-    (λ e is. absurd (longer events e is)) (λ due. absurd (none-some Asked (sym undue ∙ due))))
+    (λ e is. absurd (longer events e is)) (λ e is. absurd (longer events e is)) (λ due. absurd (none-some Asked (sym undue ∙ due))))

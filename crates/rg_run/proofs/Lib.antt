@@ -12,6 +12,7 @@ mod SinceTurn
 mod State
 mod Step
 mod None
+mod Collects
 mod Collected
 mod Loop
 mod Moved

@@ -24,6 +24,8 @@ pub record Told (t : Tree) (input : List ℕ) (e : Event) : Type 0 where
   -- of the region that is active behind the step, and its manager
   pub region : e.region ≡ active (plain t input (before + 1)).state.windows
   pub manager : IsManaged (plain t input (before + 1)).state e.manager
+  -- which is none that collects nothing
+  pub collects : e.manager ≢ Arena
   -- mark and sweep has kept as many objects as the roots of the window reach there
   pub kept : e.manager ≡ Trace → e.kept ≡ length (plain_reach (plain t input (before + 1)).state)
 
