@@ -2,5 +2,6 @@
 pub mod Headline
 pub mod Each
 pub mod Laws
+pub mod Limits
 pub mod Packed
 pub mod Inner

@@ -1,7 +1,8 @@
-//! The laws of the programs that a module's bytes mean, as contracts of functions that do nothing
-//! (docs/promises.md, "The headline").
+//! The laws of the programs that a module's bytes mean, and of the limits, as contracts of functions
+//! that do nothing (docs/promises.md, "The headline").
 
 ghost use Rattle.rg_top.specs.Laws.{EachRuns};
+ghost use Rattle.rg_top.specs.Limits.{LimitsAre};
 ghost use Rattle.rg_top.specs.Packed.{PackedRunsAs};
 
 /// Where a run of one program that raises a module stands on a machine, a run of each other one
@@ -24,3 +25,8 @@ pub fn packed_runs_as()
     rg_packed::one_module_one_run();
     rg_module::at_most_one_module();
 }
+
+/// The limits in numbers.
+pub fn limits_are()
+    ensures { LimitsAre }
+{}

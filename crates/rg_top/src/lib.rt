@@ -13,7 +13,7 @@ mod notes;
 mod process;
 mod top;
 
-pub use laws::{each_runs, packed_runs_as};
+pub use laws::{each_runs, limits_are, packed_runs_as};
 pub use notes::tell;
 pub use process::run_process;
 pub use rg_commands::answers_are_one;
