@@ -11,16 +11,15 @@ ghost use Rattle.rg_commands.specs.Settled.{Reported};
 ghost use Rattle.rg_top.specs.Inner.Told.{Gave, Becomes};
 ghost use Rattle.rg_commands.specs.Setting.{IsLent};
 ghost use Rattle.rg_base.specs.Report as report;
-ghost use Rattle.rg_words.specs.Statuses.{status_text, trap_text, ends_run};
+ghost use Rattle.rg_words.specs.Statuses.{status_text, ends_run};
 
 use arrayvec::ArrayVec;
-use rg_base::Trap;
 use rg_check::code_text;
 use rg_commands::Setting;
 use rg_io::{Failed, Sink, put_all};
 use rg_report::end_line;
 use rg_run::Machine;
-use rg_words::Status;
+use rg_words::{Status, trap_words};
 use std::alloc::Global;
 
 /// How the program is called.
@@ -29,23 +28,6 @@ pub(crate) const USAGE: &[u8] =
     code FILE; plain FILE [--steps N]; bulk N; \
     slide FILE [--steps N] [--every N] [--report]; pack FILE; \
     exec FILE [--steps N] [--every N] [--report]; when FILE PLAN [--keep K]\n";
-
-/// The words of a trap.
-fn trap_words(kind: Trap) -> &'static [u8]
-    ensures words { result.now ≡ trap_text kind }
-    ensures short { length result.now ≤ 20 }
-{
-    match kind {
-        Trap::Nil => b"trap nil",
-        Trap::Overflow => b"trap overflow",
-        Trap::Zero => b"trap zero",
-        Trap::Input => b"trap input",
-        Trap::End => b"trap end",
-        Trap::Depth => b"trap depth",
-        Trap::Size => b"trap size",
-        Trap::Index => b"trap index",
-    }
-}
 
 /// Appends bytes that there is room for.
 fn extend(line: &mut ArrayVec<u8, 96>, more: &[u8])

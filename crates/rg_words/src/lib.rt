@@ -9,5 +9,5 @@ mod status;
 mod words;
 
 pub use limits::{MODULE_BYTES, MOST_NUMBERS};
-pub use status::Status;
+pub use status::{Status, trap_words};
 pub use words::{Request, RunOptions, Task, command, shape};

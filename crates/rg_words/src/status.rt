@@ -1,7 +1,7 @@
 //! How a call ends (docs/language.md, "Statuses").
 
-ghost use Rattle.std.specs.Prelude.{◌≡◌};
-ghost use Rattle.rg_words.specs.Statuses.{number_of};
+ghost use Rattle.std.specs.Prelude.{◌≡◌, ◌≤◌, length};
+ghost use Rattle.rg_words.specs.Statuses.{number_of, trap_text};
 
 use rg_base::{Fault, Trap};
 
@@ -52,5 +52,22 @@ impl Status {
             Status::Memory => 8,
             Status::Long => 9,
         }
+    }
+}
+
+/// The words of a trap, which no line follows yet.
+pub fn trap_words(kind: Trap) -> &'static [u8]
+    ensures words { result.now ≡ trap_text kind }
+    ensures short { length result.now ≤ 20 }
+{
+    match kind {
+        Trap::Nil => b"trap nil",
+        Trap::Overflow => b"trap overflow",
+        Trap::Zero => b"trap zero",
+        Trap::Input => b"trap input",
+        Trap::End => b"trap end",
+        Trap::Depth => b"trap depth",
+        Trap::Size => b"trap size",
+        Trap::Index => b"trap index",
     }
 }

@@ -1,8 +1,6 @@
 -- The text of a world: of each behaviour how it stands, and what it printed (docs/architecture.md, "Worlds").
 use Rattle.std.specs.Prelude.{ℕ, suc, List, [], ◌∷◌, ◌++◌, codes, decimal, Option, None, slice_index_or}
 use Rattle.rg_base.specs.declared.value.Val.{Val}
-use Rattle.rg_base.specs.declared.outcome.Trap.{Trap}
-use Rattle.rg_base.specs.declared.outcome.Trap.TheVariants as trap
 use Rattle.rg_base.specs.Text.{text}
 use Rattle.rg_rules.specs.Runs.{Ran}
 use Rattle.rg_plan.specs.Plans.{Turn as Behaviour, PlanOf}
@@ -10,17 +8,7 @@ use Rattle.rg_sched.specs.declared.phase.Phase.{Phase}
 use Rattle.rg_sched.specs.declared.phase.Phase.TheVariants as phase
 use Rattle.rg_sched.specs.Phases.{phase_of, printed_by}
 use Rattle.rg_sched.specs.Atomic.{Told}
-
--- the words of a trap
-abbrev pub trap_text : Trap → List ℕ
-trap_text trap.Nil = codes "trap nil"
-trap_text trap.Overflow = codes "trap overflow"
-trap_text trap.Zero = codes "trap zero"
-trap_text trap.Input = codes "trap input"
-trap_text trap.End = codes "trap end"
-trap_text trap.Depth = codes "trap depth"
-trap_text trap.Size = codes "trap size"
-trap_text trap.Index = codes "trap index"
+use Rattle.rg_words.specs.Statuses.{trap_text}
 
 -- how a behaviour stands
 abbrev pub phase_text : Phase → List ℕ

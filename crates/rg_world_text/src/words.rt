@@ -8,6 +8,7 @@ ghost use Rattle.rg_world_text.specs.Text as texts;
 use itoa::Buffer;
 use rg_base::{ByteList, Memory, Trap, Val, Vals};
 use rg_sched::Phase;
+use rg_words::trap_words;
 
 /// Appends the text of a behaviour: how it stands, and the values that it printed.
 pub(crate) fn add_behaviour(
@@ -52,22 +53,6 @@ fn add_trap(line: &mut ByteList, kind: Trap, at: u64) -> Result<(), Memory>
     line.extend(b" at line ")?;
     line.extend(Buffer::new().format(at).as_bytes())?;
     Ok(())
-}
-
-// The words of a trap.
-fn trap_words(kind: Trap) -> &'static [u8]
-    ensures { result.now ≡ texts.trap_text kind }
-{
-    match kind {
-        Trap::Nil => b"trap nil",
-        Trap::Overflow => b"trap overflow",
-        Trap::Zero => b"trap zero",
-        Trap::Input => b"trap input",
-        Trap::End => b"trap end",
-        Trap::Depth => b"trap depth",
-        Trap::Size => b"trap size",
-        Trap::Index => b"trap index",
-    }
 }
 
 // Appends values, a line each.
