@@ -106,9 +106,9 @@ Labelled old p q mid =
     (a : ℕ) (o v : Seen) → slice_get p.store a ≡ Some o → slice_get q.store a ≡ Some v → slice_get (machine_in old.stepper.parts).store a ≡ Some o
     → o ≢ gone → (v.label ≡ o.label) ⊎ ((r : ℕ) × (o.label ≡ Region r) × (LeftTable old.stepper.parts mid r → ⊥))
 
-module _ {t : Tree} {code : Code} {old : Standing} {p q : State} {new other : Standing} (w : Answer t code old p q new)
-    (u : Answer t code old p q other)
-    (labels : Labelled old p q (mid u))
+module _ {t : Tree} {code : Code} {old beside_old : Standing} {p q : State} {new other : Standing} (w : Answer t code old p q new)
+    (u : Answer t code beside_old p q other) (alike : HoldTheSame old.stepper.parts beside_old.stepper.parts)
+    (labels : Labelled beside_old p q (mid u))
     (fresh : (a : ℕ) → length p.store ≤ a → a < length q.store → holds (mid u).heap.cells.heap a ≡ true) where
   abbrev held : ℕ → Truth
   held a = holds (mid w).heap.cells.heap a
@@ -195,7 +195,7 @@ module _ {t : Tree} {code : Code} {old : Standing} {p q : State} {new other : St
     pub left : InTable (mid u).heap.regions r → ⊥
 
   missing : (a : ℕ) → held a ≡ true → also a ≡ false → a < length p.store → (r : ℕ) × Missing a r
-  missing a h e less = elim (labels a o.object v.0 o.plain v.1 o.stood o.some) [
+  missing a h e less = elim (labels a o.object v.0 o.plain v.1 also_stood o.some) [
     | inl label ↦ elim went [
       | inl ended ↦
           absurd (true≢false (sym (part.temps a v.0 ended.0 h (ap (λ (s : List Seen). slice_get s a) store ∙ v.1) (label ∙ ended.1))
@@ -209,7 +209,7 @@ module _ {t : Tree} {code : Code} {old : Standing} {p q : State} {new other : St
       | inl ended ↦ (let e : Region moved.0 ≡ Temp ended.0 = sym moved.1 ∙ ended.1 in absurd cc)
       | inr gone_region ↦
           (let e : gone_region.0 ≡ moved.0 = region-is (sym gone_region.1 ∙ moved.1) in
-          absurd (moved.2 (subst (LeftTable old.stepper.parts (mid u)) e gone_region.2)))
+          absurd (moved.2 (subst (LeftTable beside_old.stepper.parts (mid u)) e gone_region.2)))
     ]
   ]
     where
@@ -222,9 +222,12 @@ module _ {t : Tree} {code : Code} {old : Standing} {p q : State} {new other : St
       v : (v : Seen) × (slice_get q.store a ≡ Some v)
       v = below-get q.store a (subst (λ (s : List Seen). a < length s) store (part.there a h))
 
-      went : EndedTemp was (machine_in (mid u)) o.object.label
-          ⊎ ((r : ℕ) × (o.object.label ≡ Region r) × LeftTable old.stepper.parts (mid u) r)
-      went = u.step.serves.frees a o.object o.stood o.some
+      also_stood : slice_get (machine_in beside_old.stepper.parts).store a ≡ Some o.object
+      also_stood = ap (λ (s : List Seen). slice_get s a) (sym alike) ∙ o.stood
+
+      went : EndedTemp (machine_in beside_old.stepper.parts) (machine_in (mid u)) o.object.label
+          ⊎ ((r : ℕ) × (o.object.label ≡ Region r) × LeftTable beside_old.stepper.parts (mid u) r)
+      went = u.step.serves.frees a o.object also_stood o.some
           (λ x at. gone-shown (mid u).heap (mid u).frames (beside u).serials (beside u).stands a x e at)
 
   -- it has an owner, of which the same holds
@@ -315,15 +318,15 @@ module _ {t : Tree} {code : Code} {old : Standing} {p q : State} {new other : St
         | inr le ↦ fresh a le (subst (λ (s : List Seen). a < length s) store (part.there a h))
       ]
 
-module _ {t : Tree} {code : Code} {old : Standing} {p q : State} {new other : Standing} (w : Answer t code old p q new)
-    (u : Answer t code old p q other)
-    (labels : Labelled old p q (mid w)) (labels₂ : Labelled old p q (mid u))
+module _ {t : Tree} {code : Code} {old beside_old : Standing} {p q : State} {new other : Standing} (w : Answer t code old p q new)
+    (u : Answer t code beside_old p q other) (alike : HoldTheSame old.stepper.parts beside_old.stepper.parts)
+    (labels : Labelled old p q (mid w)) (labels₂ : Labelled beside_old p q (mid u))
     (fresh : (a : ℕ) → length p.store ≤ a → a < length q.store → holds (mid w).heap.cells.heap a ≡ true)
     (fresh₂ : (a : ℕ) → length p.store ≤ a → a < length q.store → holds (mid u).heap.cells.heap a ≡ true) where
   same : (a : ℕ) → holds (mid w).heap.cells.heap a ≡ holds (mid u).heap.cells.heap a
   same a =
-      both-ways (holds (mid w).heap.cells.heap a) (holds (mid u).heap.cells.heap a) (held-other w u labels₂ fresh₂ a)
-      (held-other u w labels fresh a)
+      both-ways (holds (mid w).heap.cells.heap a) (holds (mid u).heap.cells.heap a) (held-other w u alike labels₂ fresh₂ a)
+      (held-other u w (sym alike) labels fresh a)
 
   -- the instructions left the same held
   pub mid-same : HoldTheSame (mid w) (mid u)

@@ -17,7 +17,9 @@ use Rattle.rg_rules.specs.State.{State}
 use Rattle.rg_rules.specs.Steps.{Went, next}
 use Rattle.rg_code.specs.Code.{Code}
 use Rattle.rg_code.specs.Dues.{due_at}
+use Rattle.rg_stack.specs.Dues.{first_due}
 use Rattle.rg_stack.specs.Left.{NoneLeft, SomeLeft}
+use Rattle.rg_stack.proofs.Callers.Due.{steps-due}
 use Rattle.rg_machine.specs.Parts.{Parts, machine_in}
 use Rattle.rg_step.specs.Collections.{CollectsAsked, Serves, event_of}
 use Rattle.rg_step.specs.States.{Standing}
@@ -26,7 +28,7 @@ use Rattle.rg_step.proofs.Callers.Active.{shown-manager}
 use Rattle.rg_step.proofs.Callers.Reached.{longer, went-is}
 use Rattle.rg_step.proofs.Callers.Serve.{made-went}
 use Rattle.rg_once.proofs.Moves.{moves}
-use Rattle.rg_once.specs.Once.{HoldTheSame, StepsOnce, Tells}
+use Rattle.rg_once.specs.Once.{HoldTheSame, IsAlike, StepsOnce, Tells}
 use Rattle.rg_once.proofs.Answer.{Answer, does, mid, none-told, rest-is, shown}
 use Rattle.rg_once.proofs.Comes.{step-comes}
 use Rattle.rg_once.proofs.Held.{mid-same}
@@ -52,19 +54,27 @@ left-not : (items : List Item) → SomeLeft items → NoneLeft items → ⊥
 left-not [] some none = some
 left-not (i ∷ items) some none = none
 
-module _ {t : Tree} {code : Code} {old : Standing} {p q : State} {new other : Standing} (w : Answer t code old p q new)
-    (u : Answer t code old p q other) where
+-- what is due is due to the first thing to do
+due-first : {t : Tree} {code : Code} {old : Standing} {p q : State} {new : Standing} (w : Answer t code old p q new) →
+    due_at code.ops old.stepper.parts.at ≡ first_due t.classes p.items
+due-first {t} {code} {p = p} w =
+    let r = w.runs in
+    ap (due_at code.ops) r.shows.beside.at ∙ steps-due t code r.shows.grown p r.accepted r.fits r.shows.shows r.left
+
+module _ {t : Tree} {code : Code} {old beside_old : Standing} {p q : State} {new other : Standing} (w : Answer t code old p q new)
+    (u : Answer t code beside_old p q other) (alike : IsAlike old beside_old) where
   same-steps : new.stepper.steps ≡ other.stepper.steps
   same-steps =
-      made-counts old.stepper.steps new.stepper.steps w.result w.made w.step.counts
-      ∙ sym (made-counts old.stepper.steps other.stepper.steps u.result u.made u.step.counts)
+      made-counts old.stepper.steps new.stepper.steps w.result w.made w.step.counts ∙ ap counted alike.steps
+      ∙ sym (made-counts beside_old.stepper.steps other.stepper.steps u.result u.made u.step.counts)
 
   -- of a collection that was asked for both tell
-  both-tell : due_at code.ops old.stepper.parts.at ≡ Some Asked → (e : Event) → Tells old new e → (d : Event) × Tells old other d
+  both-tell : due_at code.ops old.stepper.parts.at ≡ Some Asked → (e : Event) → Tells old new e → (d : Event) × Tells beside_old other d
   both-tell due e more = by s.0.0.manager same s.0.2
     where
-      s : Serves (Some Asked) old.stepper (mid u) other.stepper old.pacers other.pacers
-      s = subst (λ x. Serves x old.stepper (mid u) other.stepper old.pacers other.pacers) due (does u)
+      s : Serves (Some Asked) beside_old.stepper (mid u) other.stepper beside_old.pacers other.pacers
+      s = subst (λ x. Serves x beside_old.stepper (mid u) other.stepper beside_old.pacers other.pacers)
+          (due-first u ∙ sym (due-first w) ∙ due) (does u)
 
       r : Serves (Some Asked) old.stepper (mid w) new.stepper old.pacers new.pacers
       r = subst (λ x. Serves x old.stepper (mid w) new.stepper old.pacers new.pacers) due (does w)
@@ -78,7 +88,8 @@ module _ {t : Tree} {code : Code} {old : Standing} {p q : State} {new other : St
       arena : CollectsAsked Arena (mid w) old.stepper.events new.stepper → ⊥
       arena c = longer old.stepper.events e (sym c.events_are ∙ more)
 
-      by : (m : Manager) → r.0.0.manager ≡ m → CollectsAsked m (mid u) old.stepper.events other.stepper → (d : Event) × Tells old other d
+      by : (m : Manager) → r.0.0.manager ≡ m → CollectsAsked m (mid u) beside_old.stepper.events other.stepper →
+          (d : Event) × Tells beside_old other d
       by Arena is c =
           absurd (arena (subst (λ m. CollectsAsked m (mid w) old.stepper.events new.stepper) is r.0.2))
       by Count is c = (event_of other.stepper.steps Asked c.told, c.events_are)
@@ -89,10 +100,10 @@ module _ {t : Tree} {code : Code} {old : Standing} {p q : State} {new other : St
   all-same = by (moves p.items) refl
     where
       by : (b : Truth) → moves p.items ≡ b → HoldTheSame (mid w) (mid u)
-      by true moved = shifts-same w u (step-shifts t w.runs.accepted p q w.runs.fits w.went moved)
+      by true moved = shifts-same w u alike.held (step-shifts t w.runs.accepted p q w.runs.fits w.went moved)
       by false quiet =
           let c = step-comes t w.runs.accepted p q w.runs.fits w.went quiet in
-          mid-same w u (λ a o v e g stood some. inl (c.labels a o v e g)) (λ a o v e g stood some. inl (c.labels a o v e g))
+          mid-same w u alike.held (λ a o v e g stood some. inl (c.labels a o v e g)) (λ a o v e g stood some. inl (c.labels a o v e g))
           (λ a le lt. seen-held w a (c.fresh a le lt)) (λ a le lt. seen-held u a (c.fresh a le lt))
 
   -- the answer tells what is left to do, and what was printed
@@ -120,16 +131,17 @@ module _ {t : Tree} {code : Code} {old : Standing} {p q : State} {new other : St
   same-answer outcome.Done outcome.Memory a b s r = absurd (true≢false (sym b))
 
 pub steps-once : StepsOnce
-steps-once t code old these those before w = record {
-  answer = same-answer one two w.result w.other w.made w.also_made (w.step.serves.shows t w.state w.runs w.input).1
+steps-once t code old beside_old these those before w = record {
+  answer = same-answer one two w.alike w.result w.other w.made w.also_made (w.step.serves.shows t w.state w.runs w.input).1
       (subst (λ (x : State). Settles (next t.classes w.state) w.state x w.other)
-      (went-is (next t.classes w.state) other q also-went went) (w.also.serves.shows t w.state w.runs w.input).1);
+      (went-is (next t.classes w.state) other q also-went went) (w.also.serves.shows t w.state w.also_runs w.input).1);
   input = sym (rest-is one) ∙ rest-is two;
-  held = all-same one two;
-  left = λ none also. ap (λ (p : Parts). (machine_in p).store) (none-told one none) ∙ all-same one two
+  steps = same-steps one two w.alike;
+  held = all-same one two w.alike;
+  left = λ none also. ap (λ (p : Parts). (machine_in p).store) (none-told one none) ∙ all-same one two w.alike
       ∙ ap (λ (p : Parts). (machine_in p).store) (sym (none-told two also));
-  both = both-tell one two;
-  collected = collected-same one two (same-steps one two) (all-same one two);
+  both = both-tell one two w.alike;
+  collected = collected-same one two (same-steps one two w.alike) (all-same one two w.alike);
 }
   where
     q : State
@@ -151,19 +163,20 @@ steps-once t code old these those before w = record {
     }
 
     other : State
-    other = (w.also.serves.shows t w.state w.runs w.input).0
+    other = (w.also.serves.shows t w.state w.also_runs w.input).0
 
     also-went : next t.classes w.state ≡ Went other
-    also-went = made-went (next t.classes w.state) w.state other w.other w.also_made (w.also.serves.shows t w.state w.runs w.input).1
+    also-went =
+        made-went (next t.classes w.state) w.state other w.other w.also_made (w.also.serves.shows t w.state w.also_runs w.input).1
 
-    two : Answer t code old w.state q those
+    two : Answer t code beside_old w.state q those
     two = record {
       result = w.other;
       before = before;
       after = w.rest;
       made = w.also_made;
       step = w.also;
-      runs = w.runs;
+      runs = w.also_runs;
       input = w.input;
       went = went;
     }

@@ -17,3 +17,4 @@ mod Quiet
 mod Move
 mod Shifted
 mod Law
+mod Run

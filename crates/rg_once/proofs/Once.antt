@@ -56,8 +56,8 @@ record Within-top (p : Parts) (r a : ℕ) : Type 0 where
   pub serial : body.serial ≡ a
   pub lies : LiesIn p.heap.cells.heap r slot
 
-module _ {t : Tree} {code : Code} {old : Standing} {p q : State} {new other : Standing} (w : Answer t code old p q new)
-    (u : Answer t code old p q other) (same : HoldTheSame (mid w) (mid u)) where
+module _ {t : Tree} {code : Code} {old beside_old : Standing} {p q : State} {new other : Standing} (w : Answer t code old p q new)
+    (u : Answer t code beside_old p q other) (same : HoldTheSame (mid w) (mid u)) where
   -- what the instructions left held in the one is held in the other
   pub in-other : Within (mid w).heap.cells.heap (mid u).heap.cells.heap
   in-other =
@@ -103,9 +103,9 @@ module _ {t : Tree} {code : Code} {old : Standing} {p q : State} {new other : St
             (ap (λ (o : Seen). o.label) shows ∙ label ∙ ap Region (top w).shown);
       }
 
-module _ {t : Tree} {code : Code} {old : Standing} {p q : State} {new other : Standing} (w : Answer t code old p q new)
-    (u : Answer t code old p q other) (same : HoldTheSame (mid w) (mid u)) {e d : Event}
-    (c : Made (mid w) old.stepper.events new.stepper e) (f : Made (mid u) old.stepper.events other.stepper d)
+module _ {t : Tree} {code : Code} {old beside_old : Standing} {p q : State} {new other : Standing} (w : Answer t code old p q new)
+    (u : Answer t code beside_old p q other) (same : HoldTheSame (mid w) (mid u)) {e d : Event}
+    (c : Made (mid w) old.stepper.events new.stepper e) (f : Made (mid u) beside_old.stepper.events other.stepper d)
     (manager : (top w).rec.manager ≡ (top u).rec.manager) where
   -- of the active region the other keeps what the one keeps
   pub top-kept : (a : ℕ) (o : Seen) → holds (mid w).heap.cells.heap a ≡ true → slice_get (machine_in (mid w)).store a ≡ Some o
@@ -119,9 +119,9 @@ module _ {t : Tree} {code : Code} {old : Standing} {p q : State} {new other : St
       (in-other w u same) (in-other u w (sym same)) (same-region w u same) manager c.did.told f.did.told (collects-so w c) (collects-so u f)
       x.slot x.body x.held x.lies (subst (λ n. holds (last w).heap.cells.heap n ≡ true) (sym x.serial) kept))
 
-module _ {t : Tree} {code : Code} {old : Standing} {p q : State} {new other : Standing} (w : Answer t code old p q new)
-    (u : Answer t code old p q other) (same : HoldTheSame (mid w) (mid u)) {e d : Event}
-    (c : Made (mid w) old.stepper.events new.stepper e) (f : Made (mid u) old.stepper.events other.stepper d)
+module _ {t : Tree} {code : Code} {old beside_old : Standing} {p q : State} {new other : Standing} (w : Answer t code old p q new)
+    (u : Answer t code beside_old p q other) (same : HoldTheSame (mid w) (mid u)) {e d : Event}
+    (c : Made (mid w) old.stepper.events new.stepper e) (f : Made (mid u) beside_old.stepper.events other.stepper d)
     (manager : (top w).rec.manager ≡ (top u).rec.manager) where
   same-held : (a : ℕ) → holds (mid w).heap.cells.heap a ≡ holds (mid u).heap.cells.heap a
   same-held a =
@@ -152,9 +152,9 @@ module _ {t : Tree} {code : Code} {old : Standing} {p q : State} {new other : St
       (holds (last u).heap.cells.heap) (machine_in (mid w)) (machine_in (mid u)) same same-top same-held same-kept
       (machine_in (last w)) (machine_in (last u)) (gathered w c) (gathered u f) there
 
-module _ {t : Tree} {code : Code} {old : Standing} {p q : State} {new other : Standing} (w : Answer t code old p q new)
-    (u : Answer t code old p q other) (same : HoldTheSame (mid w) (mid u)) {e d : Event}
-    (c : Made (mid w) old.stepper.events new.stepper e) (f : Made (mid u) old.stepper.events other.stepper d)
+module _ {t : Tree} {code : Code} {old beside_old : Standing} {p q : State} {new other : Standing} (w : Answer t code old p q new)
+    (u : Answer t code beside_old p q other) (same : HoldTheSame (mid w) (mid u)) {e d : Event}
+    (c : Made (mid w) old.stepper.events new.stepper e) (f : Made (mid u) beside_old.stepper.events other.stepper d)
     (manager : (top w).rec.manager ≡ (top u).rec.manager) where
   -- the same is held behind the two
   pub last-same : HoldTheSame (last w) (last u)
@@ -166,9 +166,9 @@ module _ {t : Tree} {code : Code} {old : Standing} {p q : State} {new other : St
       (λ a. both-ways (holds (last w).heap.cells.heap a) (holds (last u).heap.cells.heap a) (kept-on w u same c f manager a)
       (kept-on u w (sym same) f c (sym manager) a))
 
-module _ {t : Tree} {code : Code} {old : Standing} {p q : State} {new other : Standing} (w : Answer t code old p q new)
-    (u : Answer t code old p q other) (same : HoldTheSame (mid w) (mid u)) (behind : HoldTheSame (last w) (last u)) {e d : Event}
-    (c : Made (mid w) old.stepper.events new.stepper e) (f : Made (mid u) old.stepper.events other.stepper d) where
+module _ {t : Tree} {code : Code} {old beside_old : Standing} {p q : State} {new other : Standing} (w : Answer t code old p q new)
+    (u : Answer t code beside_old p q other) (same : HoldTheSame (mid w) (mid u)) (behind : HoldTheSame (last w) (last u)) {e d : Event}
+    (c : Made (mid w) old.stepper.events new.stepper e) (f : Made (mid u) beside_old.stepper.events other.stepper d) where
   in-last : Within (last w).heap.cells.heap (last u).heap.cells.heap
   in-last =
       within (last w).heap (last u).heap (last w).frames (last u).frames w.step.sound.serials u.step.sound.serials w.step.sound.stands
@@ -189,13 +189,13 @@ module _ {t : Tree} {code : Code} {old : Standing} {p q : State} {new other : St
       ((collects-so u f).number ∙ sym (same-region w u same))
       (u.step.sound.forest.members (top u).window.region (collects-so u f).now (collects-so u f).own))
 
-module _ {t : Tree} {code : Code} {old : Standing} {p q : State} {new other : Standing} (w : Answer t code old p q new)
-    (u : Answer t code old p q other) where
+module _ {t : Tree} {code : Code} {old beside_old : Standing} {p q : State} {new other : Standing} (w : Answer t code old p q new)
+    (u : Answer t code beside_old p q other) where
   -- where both tell of a collection, it is of the same
-  of-the-same : new.stepper.steps ≡ other.stepper.steps → (e d : Event) → Tells old new e → Tells old other d → OfTheSame e d
+  of-the-same : new.stepper.steps ≡ other.stepper.steps → (e d : Event) → Tells old new e → Tells beside_old other d → OfTheSame e d
   of-the-same steps e d more also =
       let x = event-told t code old new w.result w.before w.after w.made w.step p q w.runs w.input w.went e more in
-      let y = event-told t code old other u.result u.before u.after u.made u.step p q u.runs u.input u.went d also in
+      let y = event-told t code beside_old other u.result u.before u.after u.made u.step p q u.runs u.input u.went d also in
       let manager : e.manager ≡ d.manager = same_Some e.manager d.manager (sym x.manager ∙ y.manager) in
       record {
         step = x.step ∙ steps ∙ sym y.step;
@@ -205,7 +205,7 @@ module _ {t : Tree} {code : Code} {old : Standing} {p q : State} {new other : St
       }
 
   -- where the instructions left the same held, all that is told is the same, and the same is held behind it
-  pub collected-same : new.stepper.steps ≡ other.stepper.steps → HoldTheSame (mid w) (mid u) → (e d : Event) → Tells old new e → Tells old other d
+  pub collected-same : new.stepper.steps ≡ other.stepper.steps → HoldTheSame (mid w) (mid u) → (e d : Event) → Tells old new e → Tells beside_old other d
       → (e ≡ d) × HoldTheSame (last w) (last u)
   collected-same steps same e d more also = (
     event-same e d s held kept released,
@@ -218,7 +218,7 @@ module _ {t : Tree} {code : Code} {old : Standing} {p q : State} {new other : St
       c : Made (mid w) old.stepper.events new.stepper e
       c = made-of w e more
 
-      f : Made (mid u) old.stepper.events other.stepper d
+      f : Made (mid u) beside_old.stepper.events other.stepper d
       f = made-of u d also
 
       manager : (top w).rec.manager ≡ (top u).rec.manager

@@ -209,9 +209,10 @@ module _ {t : Tree} {code : Code} {old : Standing} {p q : State} {new : Standing
   ]
 
 -- so the instructions of such a step leave the same held
-pub shifts-same : {t : Tree} {code : Code} {old : Standing} {p q : State} {new other : Standing} (w : Answer t code old p q new)
-    (u : Answer t code old p q other) → Shifts t.classes p q → HoldTheSame (mid w) (mid u)
-shifts-same {p = p} {q = q} w u s =
+pub shifts-same : {t : Tree} {code : Code} {old beside_old : Standing} {p q : State} {new other : Standing} (w : Answer t code old p q new)
+    (u : Answer t code beside_old p q other) → HoldTheSame old.stepper.parts beside_old.stepper.parts → Shifts t.classes p q →
+    HoldTheSame (mid w) (mid u)
+shifts-same {p = p} {q = q} w u alike s =
     let count = s.count in
-    mid-same w u (shifts-labelled w s) (shifts-labelled u s) (λ a le lt. absurd (omega (arith, count, le, lt)))
+    mid-same w u alike (shifts-labelled w s) (shifts-labelled u s) (λ a le lt. absurd (omega (arith, count, le, lt)))
     (λ a le lt. absurd (omega (arith, count, le, lt)))

@@ -1,11 +1,18 @@
-//! The law that a step is determined, as the contract of a function that does nothing
+//! The laws that a step and a run are determined, as contracts of functions that do nothing
 //! (docs/architecture.md, "The stepper").
 
-ghost use Rattle.rg_once.specs.Once.{StepsOnce};
+ghost use Rattle.rg_once.specs.Once.{RunsOnce, StepsOnce};
 
-/// Two answers to a step from one state agree: in what they say, in what is left of the input and
+/// Two answers to a step from standings that hold the same of one state agree: in what they say, in what is left of the input and
 /// in what the instructions leave held; where both tell of a collection, in all that is told of it
 /// and in what is held behind it.
 pub fn steps_once()
     ensures { StepsOnce }
+{}
+
+/// Two runs of a program on the same bytes of an input, of as many steps each, in which the same
+/// steps tell of a collection, hold the same, have told the same collections, and leave as much of
+/// the input.
+pub fn runs_once()
+    ensures { RunsOnce }
 {}

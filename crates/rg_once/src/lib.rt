@@ -1,7 +1,7 @@
-//! That a step is determined (docs/architecture.md, "The stepper"): a law on the contract of a
-//! step, as a function whose contract it is.
+//! That a step is determined, and so a run (docs/architecture.md, "The stepper"): laws on the
+//! contract of a step, as functions whose contracts they are.
 #![tactic(auto)]
 
 mod laws;
 
-pub use laws::steps_once;
+pub use laws::{runs_once, steps_once};
