@@ -368,7 +368,7 @@ class Call:
         said = {l for w, b, _ in self.found.values() for l in w + b}
         self.others = [l for l, _ in self.says if l not in said]
 
-# the crates whose `Refusal` is that of rg_verify
+# the crates whose `Refusal` is that of rg_verify_expressions
 RAISING = {"rg_raise", "rg_blocks", "rg_classes", "rg_bodies", "rg_raised"}
 
 enums = {}
@@ -379,7 +379,7 @@ for file in glob.glob("crates/*/src/**/*.rt", recursive=True):
 def variants(crate, name):
     of = enums.get(name, {})
     if crate in of: return [*of[crate]]
-    home = {"rg_module": "rg_spell", "rg_image": "rg_spell"}.get(crate, "rg_verify" if crate in RAISING else "rg_base")
+    home = {"rg_module": "rg_spell", "rg_image": "rg_spell"}.get(crate, "rg_verify_expressions" if crate in RAISING else "rg_base")
     return [*next(iter(of.values()))] if len(of) == 1 else [*of.get(home, [])]
 
 def functions(item, indent):

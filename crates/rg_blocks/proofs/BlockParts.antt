@@ -3,11 +3,11 @@ use Rattle.std.proofs.Common.{◌≡◌, ◌==◌, ℕ, suc, ◌+◌, if◌then�
 use Rattle.std.proofs.Common.{refl, ap, ◌∙◌, arith}
 use Rattle.std.proofs.lemmas.Bool.{eq-eqb}
 use Rattle.rg_base.specs.declared.ty.Ty.{Ty}
-use Rattle.rg_verify.specs.Raised.{Raised, Front, expression}
-use Rattle.rg_verify.specs.Statements.{Block, branch, while, no_else, otherwise, types_inside}
-use Rattle.rg_verify.specs.Signs.{end_of, jump_of}
-use Rattle.rg_verify.specs.Blocks.{◌>>=◌, test, Given, Inner, sign, slot_type, bridge_class, fronts_at, ended, window_end, otherwise_told, jumped}
-use Rattle.rg_verify.specs.Blocks.{tested, window, kind_by, kind_told, block_told}
+use Rattle.rg_verify_expressions.specs.Raised.{Raised, Front, expression}
+use Rattle.rg_verify_expressions.specs.Statements.{Block, branch, while, no_else, otherwise, types_inside}
+use Rattle.rg_verify_expressions.specs.Signs.{end_of, jump_of}
+use Rattle.rg_verify_expressions.specs.Blocks.{◌>>=◌, test, Given, Inner, sign, slot_type, bridge_class, fronts_at, ended, window_end, otherwise_told, jumped}
+use Rattle.rg_verify_expressions.specs.Blocks.{tested, window, kind_by, kind_told, block_told}
 use Rattle.rg_raise.proofs.Telling.{bind-is, bind-none}
 use Rattle.rg_raise.proofs.RightSides.{then-is, then-none}
 

@@ -15,16 +15,16 @@ use Rattle.rg_tree.specs.Rows.RowTrees.{path_of, variable_of}
 use Rattle.rg_tree.specs.Rows.RowsExist.{IsNameIn, IsVariableIn, IsPathIn}
 use Rattle.rg_tree.specs.Adds.{Extends, Means, Adds}
 use Rattle.rg_tree.proofs.Adding.{extends-trans, means-later}
-use Rattle.rg_verify.specs.declared.refusal.Refusal.{Refusal}
-use Rattle.rg_verify.specs.declared.signs.Open.TheVariants as opens
-use Rattle.rg_verify.specs.declared.signs.Walk.TheVariants as walk
-use Rattle.rg_verify.specs.Naming.{variable_name}
-use Rattle.rg_verify.specs.Raised.{Raised, named, path_named}
-use Rattle.rg_verify.specs.Rows.{IsTree, IsPath}
-use Rattle.rg_verify.specs.Statements.{Block, Kind, branch, while, enter, enter_field, print, return, no_else, otherwise, types_inside}
-use Rattle.rg_verify.specs.Signs.{end_of}
-use Rattle.rg_verify.specs.Blocks.{Given, Inner, Told, slot_type, bridge_class, path_in, ended, otherwise_told, jumped, tested, window_end, window}
-use Rattle.rg_verify.specs.Blocks.{expr_by, open_by}
+use Rattle.rg_verify_expressions.specs.declared.refusal.Refusal.{Refusal}
+use Rattle.rg_verify_expressions.specs.declared.signs.Open.TheVariants as opens
+use Rattle.rg_verify_expressions.specs.declared.signs.Walk.TheVariants as walk
+use Rattle.rg_verify_expressions.specs.Naming.{variable_name}
+use Rattle.rg_verify_expressions.specs.Raised.{Raised, named, path_named}
+use Rattle.rg_verify_expressions.specs.Rows.{IsTree, IsPath}
+use Rattle.rg_verify_expressions.specs.Statements.{Block, Kind, branch, while, enter, enter_field, print, return, no_else, otherwise, types_inside}
+use Rattle.rg_verify_expressions.specs.Signs.{end_of}
+use Rattle.rg_verify_expressions.specs.Blocks.{Given, Inner, Told, slot_type, bridge_class, path_in, ended, otherwise_told, jumped, tested, window_end, window}
+use Rattle.rg_verify_expressions.specs.Blocks.{expr_by, open_by}
 use Rattle.rg_raise.specs.declared.said.KindSaid.{KindSaid}
 use Rattle.rg_blocks.specs.declared.said.WindowSaid.{WindowSaid}
 use Rattle.rg_raise.specs.declared.said.After.TheVariants as after

@@ -7,18 +7,18 @@ use Rattle.rg_tree.specs.declared.rows.Span.{Span}
 use Rattle.rg_tree.specs.declared.rows.StmtKind.TheVariants as kind_row
 use Rattle.rg_tree.specs.Rows.Tables.{Tables}
 use Rattle.rg_tree.proofs.Adding.{extends-same}
-use Rattle.rg_verify.specs.declared.refusal.Refusal.{Refusal}
-use Rattle.rg_verify.specs.declared.refusal.Refusal.TheVariants as refusal
-use Rattle.rg_verify.specs.declared.signs.Close.TheVariants as close
-use Rattle.rg_verify.specs.declared.signs.Open.TheVariants as opens
-use Rattle.rg_verify.specs.declared.signs.Walk.{Walk}
-use Rattle.rg_verify.specs.declared.signs.Walk.TheVariants as walk
-use Rattle.rg_verify.specs.Raised.{Raised, named, Front}
-use Rattle.rg_verify.specs.Rows.{IsTree}
-use Rattle.rg_verify.specs.Statements.{Block, Kind, Right, new, new_tmp, new_iso, while, print, return, collect, all_used}
-use Rattle.rg_verify.specs.Signs.{close_of, open_of, walk_of, jump_of}
-use Rattle.rg_verify.specs.Blocks.{Given, Inner, Told, sign, cleared, right_behind, taken, otherwise_told, jumped, tested, close_by}
-use Rattle.rg_verify.specs.Blocks.{expr_by, open_by, fronts_at, kind_by, kind_told}
+use Rattle.rg_verify_expressions.specs.declared.refusal.Refusal.{Refusal}
+use Rattle.rg_verify_expressions.specs.declared.refusal.Refusal.TheVariants as refusal
+use Rattle.rg_verify_expressions.specs.declared.signs.Close.TheVariants as close
+use Rattle.rg_verify_expressions.specs.declared.signs.Open.TheVariants as opens
+use Rattle.rg_verify_expressions.specs.declared.signs.Walk.{Walk}
+use Rattle.rg_verify_expressions.specs.declared.signs.Walk.TheVariants as walk
+use Rattle.rg_verify_expressions.specs.Raised.{Raised, named, Front}
+use Rattle.rg_verify_expressions.specs.Rows.{IsTree}
+use Rattle.rg_verify_expressions.specs.Statements.{Block, Kind, Right, new, new_tmp, new_iso, while, print, return, collect, all_used}
+use Rattle.rg_verify_expressions.specs.Signs.{close_of, open_of, walk_of, jump_of}
+use Rattle.rg_verify_expressions.specs.Blocks.{Given, Inner, Told, sign, cleared, right_behind, taken, otherwise_told, jumped, tested, close_by}
+use Rattle.rg_verify_expressions.specs.Blocks.{expr_by, open_by, fronts_at, kind_by, kind_told}
 use Rattle.rg_raise.specs.declared.said.Fronts.{Fronts}
 use Rattle.rg_raise.specs.declared.said.KindSaid.{KindSaid}
 use Rattle.rg_raise.specs.declared.said.RightSaid.{RightSaid}

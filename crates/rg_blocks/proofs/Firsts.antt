@@ -4,9 +4,9 @@ use Rattle.std.proofs.Common.{refl, ap, subst}
 use Rattle.rg_tree.specs.declared.rows.Path as rows
 use Rattle.rg_tree.specs.Rows.Tables.{Tables}
 use Rattle.rg_code.specs.declared.op.Op.{Op}
-use Rattle.rg_verify.specs.declared.front.FrontRow.TheVariants as front
-use Rattle.rg_verify.specs.Raised.{Raised, Front, expression, object, place, named}
-use Rattle.rg_verify.specs.Rows.{IsTree}
+use Rattle.rg_verify_expressions.specs.declared.front.FrontRow.TheVariants as front
+use Rattle.rg_verify_expressions.specs.Raised.{Raised, Front, expression, object, place, named}
+use Rattle.rg_verify_expressions.specs.Rows.{IsTree}
 use Rattle.rg_raise.specs.declared.said.Fronts.{Fronts}
 use Rattle.rg_raise.specs.Fronts.{AreFrontRows, AreLeft, Spans, spanned, TakesFirst}
 use Rattle.rg_raise.specs.Telling.{IsPathTo}

@@ -9,12 +9,12 @@ use Rattle.rg_tree.specs.Tree.{Stmt}
 use Rattle.rg_tree.specs.Rows.Tables.{Tables}
 use Rattle.rg_tree.specs.Rows.RowTrees.{stmt_at}
 use Rattle.rg_raise.specs.declared.said.After.TheVariants as after
-use Rattle.rg_verify.specs.Statements.{Kind, declare, assign, write, write_element, call, swap, branch, while, enter, enter_field, print, collect}
-use Rattle.rg_verify.specs.Statements.{return, Block}
-use Rattle.rg_verify.specs.Statements.{empty, next, types_behind}
-use Rattle.rg_verify.specs.Found.{slots_behind, kind_named, block_named}
+use Rattle.rg_verify_expressions.specs.Statements.{Kind, declare, assign, write, write_element, call, swap, branch, while, enter, enter_field, print, collect}
+use Rattle.rg_verify_expressions.specs.Statements.{return, Block}
+use Rattle.rg_verify_expressions.specs.Statements.{empty, next, types_behind}
+use Rattle.rg_verify_expressions.specs.Found.{slots_behind, kind_named, block_named}
 use Rattle.rg_tree.specs.Adds.{Extends}
-use Rattle.rg_verify.specs.Blocks.{◌>>=◌, Given, Told, Inner, is_last, followed, starts, kind_told, block_by, statements}
+use Rattle.rg_verify_expressions.specs.Blocks.{◌>>=◌, Given, Told, Inner, is_last, followed, starts, kind_told, block_by, statements}
 use Rattle.rg_tree.specs.Adds.{Adds}
 use Rattle.rg_raise.specs.Telling.{after_of}
 use Rattle.rg_blocks.specs.Blocks.{AreStmts, block_with}

@@ -16,9 +16,9 @@ use Rattle.rg_tree.specs.Adds.{Means, Adds}
 use Rattle.rg_tree.proofs.Callers.{IsAbove-Keeps}
 use Rattle.rg_tree.proofs.Grows.{path_of-grows, IsPathIn-grows}
 use Rattle.rg_tree.proofs.Adding.{stmt-means, extends-by, means-later}
-use Rattle.rg_verify.specs.Raised.{Raised, number, boolean, nil, path, is_nil, size, element, neg, not, binary, named, path_named}
-use Rattle.rg_verify.specs.Rows.{IsTree}
-use Rattle.rg_verify.specs.Blocks.{path_in}
+use Rattle.rg_verify_expressions.specs.Raised.{Raised, number, boolean, nil, path, is_nil, size, element, neg, not, binary, named, path_named}
+use Rattle.rg_verify_expressions.specs.Rows.{IsTree}
+use Rattle.rg_verify_expressions.specs.Blocks.{path_in}
 use Rattle.rg_raise.specs.Telling.{IsPathTo}
 use Rattle.rg_raise.proofs.Rows.{means-now, means-span}
 use Rattle.rg_blocks.specs.Blocks.{FindsPath, block_with, AddsBlock}

@@ -14,13 +14,13 @@ use Rattle.rg_tree.specs.Rows.RowsExist.{IsStmtNumber, IsBlockIn}
 use Rattle.rg_tree.specs.Adds.{Extends, Means, Adds}
 use Rattle.rg_tree.proofs.Adding.{extends-trans}
 use Rattle.rg_code.specs.declared.op.Op.{Op}
-use Rattle.rg_verify.specs.declared.refusal.Refusal.{Refusal}
-use Rattle.rg_verify.specs.Statements.{Kind, declare, assign, write, write_element, call, swap, branch, while, enter, enter_field, print, collect}
-use Rattle.rg_verify.specs.Statements.{return, Block, empty, next, types_behind, kind_ops}
-use Rattle.rg_verify.specs.Found.{kind_named}
-use Rattle.rg_verify.specs.Signs.{mark_of}
-use Rattle.rg_verify.specs.Blocks.{◌>>=◌, Given, Told, sign, starts, is_last, kind_told, statements, block_told}
-use Rattle.rg_verify.proofs.BlockRaises.{kind-piece, starts-marked, block-piece}
+use Rattle.rg_verify_expressions.specs.declared.refusal.Refusal.{Refusal}
+use Rattle.rg_verify_expressions.specs.Statements.{Kind, declare, assign, write, write_element, call, swap, branch, while, enter, enter_field, print, collect}
+use Rattle.rg_verify_expressions.specs.Statements.{return, Block, empty, next, types_behind, kind_ops}
+use Rattle.rg_verify_expressions.specs.Found.{kind_named}
+use Rattle.rg_verify_expressions.specs.Signs.{mark_of}
+use Rattle.rg_verify_expressions.specs.Blocks.{◌>>=◌, Given, Told, sign, starts, is_last, kind_told, statements, block_told}
+use Rattle.rg_verify_expressions.proofs.BlockRaises.{kind-piece, starts-marked, block-piece}
 use Rattle.rg_raise.specs.declared.said.KindSaid.{KindSaid}
 use Rattle.rg_raise.specs.declared.said.After.TheVariants as after
 use Rattle.rg_raise.specs.Telling.{MakesAs, IsKindSaid, kind_of, after_of}

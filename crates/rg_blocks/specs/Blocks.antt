@@ -9,12 +9,12 @@ use Rattle.rg_tree.specs.Rows.Tables.{Tables}
 use Rattle.rg_tree.specs.Rows.RowTrees.{stmt_at, block_of}
 use Rattle.rg_tree.specs.Rows.RowsExist.{IsStmtNumber, IsBlockIn}
 use Rattle.rg_tree.specs.Adds.{Extends, Means, Adds}
-use Rattle.rg_verify.specs.Naming.{variable_name}
-use Rattle.rg_verify.specs.declared.signs.Walk.{Walk}
-use Rattle.rg_verify.specs.Raised.{Raised}
-use Rattle.rg_verify.specs.Statements.{Block, Kind}
-use Rattle.rg_verify.specs.Found.{block_named}
-use Rattle.rg_verify.specs.Blocks.{◌>>=◌, Given, Told, taken}
+use Rattle.rg_verify_expressions.specs.Naming.{variable_name}
+use Rattle.rg_verify_expressions.specs.declared.signs.Walk.{Walk}
+use Rattle.rg_verify_expressions.specs.Raised.{Raised}
+use Rattle.rg_verify_expressions.specs.Statements.{Block, Kind}
+use Rattle.rg_verify_expressions.specs.Found.{block_named}
+use Rattle.rg_verify_expressions.specs.Blocks.{◌>>=◌, Given, Told, taken}
 use Rattle.rg_raise.specs.declared.said.KindSaid.{KindSaid}
 use Rattle.rg_raise.specs.declared.said.After.TheVariants as after
 use Rattle.rg_raise.specs.Telling.{array_of, IsPathTo, kind_of, IsKindRow}

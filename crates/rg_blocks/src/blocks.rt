@@ -4,14 +4,14 @@ ghost use Rattle.std.specs.Prelude.{◌≡◌, ℕ, suc, ◌+◌, ◌<◌, ◌^�
 ghost use Rattle.std.specs.Prelude.{Some, None};
 ghost use Rattle.rg_base.specs.declared.ty.Ty.{Ty as Types};
 ghost use Rattle.rg_tree.specs.Adds.{Extends};
-ghost use Rattle.rg_verify.specs.Raised.{Raised, named, Front as OneFront, expression};
-ghost use Rattle.rg_verify.specs.declared.signs.Walk.TheVariants as walk;
-ghost use Rattle.rg_verify.specs.declared.signs.Open.TheVariants as opens;
-ghost use Rattle.rg_verify.specs.Rows.{IsTree};
-ghost use Rattle.rg_verify.specs.Signs.{close_of, open_of, walk_of};
-ghost use Rattle.rg_verify.specs.Statements as statements;
-ghost use Rattle.rg_verify.specs.Blocks as blocks;
-ghost use Rattle.rg_verify.specs.Blocks.{Inner, sign, block_told};
+ghost use Rattle.rg_verify_expressions.specs.Raised.{Raised, named, Front as OneFront, expression};
+ghost use Rattle.rg_verify_expressions.specs.declared.signs.Walk.TheVariants as walk;
+ghost use Rattle.rg_verify_expressions.specs.declared.signs.Open.TheVariants as opens;
+ghost use Rattle.rg_verify_expressions.specs.Rows.{IsTree};
+ghost use Rattle.rg_verify_expressions.specs.Signs.{close_of, open_of, walk_of};
+ghost use Rattle.rg_verify_expressions.specs.Statements as statements;
+ghost use Rattle.rg_verify_expressions.specs.Blocks as blocks;
+ghost use Rattle.rg_verify_expressions.specs.Blocks.{Inner, sign, block_told};
 ghost use Rattle.rg_raise.specs.Fronts.{Spans, TakesFirst};
 ghost use Rattle.rg_raise.specs.Telling.{given, MakesAs, IsKindSaid};
 ghost use Rattle.rg_blocks.specs.Blocks.{AreSaid, IsBlockSaid, IsWindowSaid, array_told};
@@ -27,7 +27,7 @@ use rg_raise::{
     longer_path, made_behind, object_by, raise_fronts, slot_type, take_first, taken, walk_at,
 };
 use rg_tree::{Program, Right, Span, StmtKind};
-use rg_verify::{Close, FrontRow, Open, Refusal, Walk, path_row};
+use rg_verify_expressions::{Close, FrontRow, Open, Refusal, Walk, path_row};
 
 // The second block of an `if`, behind the jump over it.
 #[cycle(block)]

@@ -1,8 +1,8 @@
 //! Where statements begin, and where blocks end (docs/architecture.md, "Modules").
 
 ghost use Rattle.std.specs.Prelude.{◌≡◌, ◌+◌, ◌<◌, ◌^◌, IfSome};
-ghost use Rattle.rg_verify.specs.Signs.{end_of};
-ghost use Rattle.rg_verify.specs.Blocks.{ended, window_end, starts};
+ghost use Rattle.rg_verify_expressions.specs.Signs.{end_of};
+ghost use Rattle.rg_verify_expressions.specs.Blocks.{ended, window_end, starts};
 
 use crate::signs::{closing_at, end_at, leave_at};
 use rg_code::CodeList;

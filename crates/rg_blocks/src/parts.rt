@@ -5,11 +5,11 @@ ghost use Rattle.rg_tree.specs.Tree as tree;
 ghost use Rattle.rg_tree.specs.Rows.RowTrees.{stmt_at, variable_of};
 ghost use Rattle.rg_tree.specs.Rows.RowsExist.{IsStmtNumber, IsVariableIn};
 ghost use Rattle.rg_tree.specs.Adds.{Extends, Adds};
-ghost use Rattle.rg_verify.specs.Naming.{variable_name};
-ghost use Rattle.rg_verify.specs.Raised.{Raised, named};
-ghost use Rattle.rg_verify.specs.Rows.{IsTree, IsPath};
-ghost use Rattle.rg_verify.specs.Statements as statements;
-ghost use Rattle.rg_verify.specs.Blocks as blocks;
+ghost use Rattle.rg_verify_expressions.specs.Naming.{variable_name};
+ghost use Rattle.rg_verify_expressions.specs.Raised.{Raised, named};
+ghost use Rattle.rg_verify_expressions.specs.Rows.{IsTree, IsPath};
+ghost use Rattle.rg_verify_expressions.specs.Statements as statements;
+ghost use Rattle.rg_verify_expressions.specs.Blocks as blocks;
 ghost use Rattle.rg_raise.specs.Telling.{kind_of, IsKindRow};
 ghost use Rattle.rg_blocks.specs.Blocks.{FindsPath, AddsBlock, IsWindowSaid, Enters};
 
@@ -17,7 +17,7 @@ use crate::said::WindowSaid;
 use rg_base::Memory;
 use rg_raise::{After, KindSaid};
 use rg_tree::{ExprRow, Path, Program, Span, StmtKind, StmtRow};
-use rg_verify::{Body, add_name};
+use rg_verify_expressions::{Body, add_name};
 
 /// The path that an expression is, where it is one.
 pub(crate) fn path_in(body: Body, program: &Program, row: u32) -> Option<Path>

@@ -2,13 +2,13 @@
 //! (docs/architecture.md, "Modules").
 
 ghost use Rattle.std.specs.Prelude.{◌≡◌, ◌+◌, ◌<◌, ◌^◌, IfSome};
-ghost use Rattle.rg_verify.specs.Signs.{close_of, open_of, jump_of, end_of};
-ghost use Rattle.rg_verify.specs.Signs.{leave_of, closing_of};
-ghost use Rattle.rg_verify.specs.Blocks.{sign};
+ghost use Rattle.rg_verify_expressions.specs.Signs.{close_of, open_of, jump_of, end_of};
+ghost use Rattle.rg_verify_expressions.specs.Signs.{leave_of, closing_of};
+ghost use Rattle.rg_verify_expressions.specs.Blocks.{sign};
 
 use rg_code::{CodeList, Op};
 use rg_raise::op_at;
-use rg_verify::{Close, Leave, Open};
+use rg_verify_expressions::{Close, Leave, Open};
 
 /// At an address, what stands behind a whole expression.
 pub(crate) fn close_at(code: &CodeList, at: usize) -> Option<Close>

@@ -1,7 +1,7 @@
 //! Variables and bridges (docs/architecture.md, "Modules").
 
 ghost use Rattle.std.specs.Prelude.{◌≡◌};
-ghost use Rattle.rg_verify.specs.Blocks as blocks;
+ghost use Rattle.rg_verify_expressions.specs.Blocks as blocks;
 
 use rg_base::{Cap, Ty};
 

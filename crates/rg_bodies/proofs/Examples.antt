@@ -6,10 +6,10 @@ use Rattle.rg_base.specs.declared.ty.Ty.TheVariants as ty
 use Rattle.rg_code.specs.declared.op.Op.{Op}
 use Rattle.rg_code.specs.declared.op.Op.TheVariants as i
 use Rattle.rg_spell.specs.declared.rows.Head.{Head}
-use Rattle.rg_verify.specs.Raised.{number, path}
-use Rattle.rg_verify.specs.Statements.{Block, empty, next, print, collect, return}
-use Rattle.rg_verify.specs.Raising.{walk, raised}
-use Rattle.rg_verify.specs.Blocks.{Given, block_told}
+use Rattle.rg_verify_expressions.specs.Raised.{number, path}
+use Rattle.rg_verify_expressions.specs.Statements.{Block, empty, next, print, collect, return}
+use Rattle.rg_verify_expressions.specs.Raising.{walk, raised}
+use Rattle.rg_verify_expressions.specs.Blocks.{Given, block_told}
 use Rattle.rg_bodies.specs.Bodies.{Bodies, bodies_told}
 use Rattle.rg_bodies.specs.Standing.{BodiesStand}
 

@@ -10,11 +10,11 @@ use Rattle.rg_tree.specs.Rows.Tables.{Tables}
 use Rattle.rg_tree.specs.Adds.{Extends}
 use Rattle.rg_tree.proofs.Adding.{extends-trans, means-later}
 use Rattle.rg_spell.specs.declared.rows.Head.{Head}
-use Rattle.rg_verify.specs.declared.refusal.Refusal.{Refusal}
-use Rattle.rg_verify.specs.declared.refusal.Refusal.TheVariants as refusal
-use Rattle.rg_verify.specs.Statements.{Block}
-use Rattle.rg_verify.specs.Blocks.{Given, block_told}
-use Rattle.rg_verify.specs.Standing.{returns}
+use Rattle.rg_verify_expressions.specs.declared.refusal.Refusal.{Refusal}
+use Rattle.rg_verify_expressions.specs.declared.refusal.Refusal.TheVariants as refusal
+use Rattle.rg_verify_expressions.specs.Statements.{Block}
+use Rattle.rg_verify_expressions.specs.Blocks.{Given, block_told}
+use Rattle.rg_verify_expressions.specs.Standing.{returns}
 use Rattle.rg_raise.specs.Telling.{MakesAs, MakesOne}
 use Rattle.rg_raise.proofs.Telling.{bind-is, bind-none, makes-none, makes-some, makes-so, refused, one-some, one-so}
 use Rattle.rg_blocks.specs.Blocks.{IsBlockSaid}

@@ -3,7 +3,7 @@ use Rattle.std.proofs.Common.{◌≡◌, ℕ, zero, suc, ◌+◌, ◌≤◌, Lis
 use Rattle.std.proofs.Common.{refl, sym, ap, ◌∙◌, append_assoc, arith}
 use Rattle.std.proofs.lemmas.List.{drop-drop, length-append, length-drop}
 use Rattle.rg_code.specs.declared.op.Op.{Op}
-use Rattle.rg_verify.specs.Blocks.{Piece}
+use Rattle.rg_verify_expressions.specs.Blocks.{Piece}
 
 -- what is left of a list begins with the element at its number
 pub drop-is : {X : Type 0} (xs : List X) (n : ℕ) (x : X) (ys : List X) → drop n xs ≡ x ∷ ys → slice_get xs n ≡ Some x

@@ -6,10 +6,10 @@ use Rattle.std.proofs.lemmas.Option.{same_Some}
 use Rattle.rg_base.proofs.Callers.Lists.{drop-get}
 use Rattle.rg_code.specs.declared.op.Op.{Op}
 use Rattle.rg_code.specs.declared.op.Op.TheVariants as i
-use Rattle.rg_verify.specs.Signs.{mark_of, end_of, closing_of}
-use Rattle.rg_verify.specs.Statements.{Block}
-use Rattle.rg_verify.specs.Blocks.{◌>>=◌, ◌>>◌, test, sign, Piece}
-use Rattle.rg_verify.specs.Standing.{returns, Closes}
+use Rattle.rg_verify_expressions.specs.Signs.{mark_of, end_of, closing_of}
+use Rattle.rg_verify_expressions.specs.Statements.{Block}
+use Rattle.rg_verify_expressions.specs.Blocks.{◌>>=◌, ◌>>◌, test, sign, Piece}
+use Rattle.rg_verify_expressions.specs.Standing.{returns, Closes}
 use Rattle.rg_classes.specs.Written.{no_line}
 use Rattle.rg_bodies.specs.declared.ending.Ending.{Ending}
 use Rattle.rg_bodies.specs.declared.ending.Ending.TheVariants as ending

@@ -8,15 +8,15 @@ use Rattle.rg_rules.specs.Capabilities.{is_iso}
 use Rattle.rg_code.specs.declared.op.Op.{Op}
 use Rattle.rg_code.specs.declared.op.Op.TheVariants as i
 use Rattle.rg_code.specs.Lowering.{clears, dropped_code}
-use Rattle.rg_verify.specs.Raised.{path_ops, holder_ops, place_ops, all_ops}
-use Rattle.rg_verify.specs.Statements.{Right, value, new, new_tmp, new_iso, freeze, merge, read, more, result_of, Kind, declare, assign, write}
-use Rattle.rg_verify.specs.Statements.{write_element, call, swap, branch, while, enter, enter_field, print, collect, return, no_else, otherwise}
-use Rattle.rg_verify.specs.Statements.{Block, empty, next, types_behind, types_inside, type_at, all_used, whole_ops, right_ops, pace_ops, assign_op}
-use Rattle.rg_verify.specs.Statements.{leave_op, kind_ops, block_ops}
-use Rattle.rg_verify.specs.Blocks.{◌>>=◌, Given, sign, is_last, block_told, Piece}
-use Rattle.rg_verify.specs.Standing.{IsBlockFit, returns, Closes, TellsBlock}
-use Rattle.rg_verify.proofs.BlockRaises.{raised-blocks-stand}
-use Rattle.rg_verify.proofs.ToldStands.{blocks-are-told}
+use Rattle.rg_verify_expressions.specs.Raised.{path_ops, holder_ops, place_ops, all_ops}
+use Rattle.rg_verify_expressions.specs.Statements.{Right, value, new, new_tmp, new_iso, freeze, merge, read, more, result_of, Kind, declare, assign, write}
+use Rattle.rg_verify_expressions.specs.Statements.{write_element, call, swap, branch, while, enter, enter_field, print, collect, return, no_else, otherwise}
+use Rattle.rg_verify_expressions.specs.Statements.{Block, empty, next, types_behind, types_inside, type_at, all_used, whole_ops, right_ops, pace_ops, assign_op}
+use Rattle.rg_verify_expressions.specs.Statements.{leave_op, kind_ops, block_ops}
+use Rattle.rg_verify_expressions.specs.Blocks.{◌>>=◌, Given, sign, is_last, block_told, Piece}
+use Rattle.rg_verify_expressions.specs.Standing.{IsBlockFit, returns, Closes, TellsBlock}
+use Rattle.rg_verify_expressions.proofs.BlockRaises.{raised-blocks-stand}
+use Rattle.rg_verify_expressions.proofs.ToldStands.{blocks-are-told}
 use Rattle.rg_bodies.specs.Inner.Ends.{return_of, is_there, is_returned}
 use Rattle.rg_bodies.proofs.Places.{drop-is, drop-next}
 

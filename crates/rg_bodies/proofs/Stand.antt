@@ -8,10 +8,10 @@ use Rattle.std.proofs.lemmas.Option.{same_Some}
 use Rattle.rg_base.specs.declared.ty.Ty.{Ty}
 use Rattle.rg_code.specs.declared.op.Op.{Op}
 use Rattle.rg_spell.specs.declared.rows.Head.{Head}
-use Rattle.rg_verify.specs.Statements.{Block, block_ops}
-use Rattle.rg_verify.specs.Blocks.{Given, Told, block_told, Piece}
-use Rattle.rg_verify.specs.Standing.{block_depth, BlockStand, TellsBlock}
-use Rattle.rg_verify.proofs.ToldStands.{blocks-are-told}
+use Rattle.rg_verify_expressions.specs.Statements.{Block, block_ops}
+use Rattle.rg_verify_expressions.specs.Blocks.{Given, Told, block_told, Piece}
+use Rattle.rg_verify_expressions.specs.Standing.{block_depth, BlockStand, TellsBlock}
+use Rattle.rg_verify_expressions.proofs.ToldStands.{blocks-are-told}
 use Rattle.rg_bodies.specs.declared.ending.Ending.{Ending}
 use Rattle.rg_bodies.specs.declared.ending.Ending.TheVariants as ending
 use Rattle.rg_bodies.specs.Bodies.{RaisedBody, Bodies, types_in_front, ending_by, end_told, body_told, method_told, methods_told, bodies_told}

@@ -6,9 +6,9 @@ use Rattle.rg_tree.specs.Rows.Tables.{Tables}
 use Rattle.rg_tree.specs.Adds.{Extends}
 use Rattle.rg_tree.proofs.Adding.{extends-same, extends-trans}
 use Rattle.rg_spell.specs.declared.rows.Head.{Head}
-use Rattle.rg_verify.specs.declared.refusal.Refusal.{Refusal}
-use Rattle.rg_verify.specs.declared.refusal.Refusal.TheVariants as refusal
-use Rattle.rg_verify.specs.Blocks.{◌>>=◌, ◌>>◌, test, Given}
+use Rattle.rg_verify_expressions.specs.declared.refusal.Refusal.{Refusal}
+use Rattle.rg_verify_expressions.specs.declared.refusal.Refusal.TheVariants as refusal
+use Rattle.rg_verify_expressions.specs.Blocks.{◌>>=◌, ◌>>◌, test, Given}
 use Rattle.rg_raise.specs.Telling.{MakesAs, MakesOne}
 use Rattle.rg_raise.proofs.Telling.{bind-is, bind-none, makes-some, one-so}
 use Rattle.rg_classes.specs.declared.body_row.BodyRow.{BodyRow}

@@ -6,10 +6,10 @@ use Rattle.rg_base.specs.declared.ty.Ty.TheVariants as ty
 use Rattle.rg_code.specs.declared.op.Op.{Op}
 use Rattle.rg_code.specs.declared.op.Op.TheVariants as i
 use Rattle.rg_spell.specs.declared.rows.Head.{Head}
-use Rattle.rg_verify.specs.Signs.{mark_of, end_of}
-use Rattle.rg_verify.specs.Statements.{Block}
-use Rattle.rg_verify.specs.Blocks.{◌>>=◌, ◌>>◌, test, Given, Told, sign, block_told}
-use Rattle.rg_verify.specs.Standing.{returns}
+use Rattle.rg_verify_expressions.specs.Signs.{mark_of, end_of}
+use Rattle.rg_verify_expressions.specs.Statements.{Block}
+use Rattle.rg_verify_expressions.specs.Blocks.{◌>>=◌, ◌>>◌, test, Given, Told, sign, block_told}
+use Rattle.rg_verify_expressions.specs.Standing.{returns}
 use Rattle.rg_classes.specs.Written.{no_line}
 use Rattle.rg_bodies.specs.declared.ending.Ending.{Ending}
 use Rattle.rg_bodies.specs.declared.ending.Ending.TheVariants as ending

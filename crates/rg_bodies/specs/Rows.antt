@@ -4,9 +4,9 @@ use Rattle.rg_tree.specs.Rows.Tables.{Tables}
 use Rattle.rg_tree.specs.Adds.{Means}
 use Rattle.rg_spell.specs.declared.rows.Head.{Head}
 use Rattle.rg_module.specs.Parts.{Parts}
-use Rattle.rg_verify.specs.declared.callee.Callee.{Callee}
-use Rattle.rg_verify.specs.Found.{block_named}
-use Rattle.rg_verify.specs.Blocks.{Given}
+use Rattle.rg_verify_expressions.specs.declared.callee.Callee.{Callee}
+use Rattle.rg_verify_expressions.specs.Found.{block_named}
+use Rattle.rg_verify_expressions.specs.Blocks.{Given}
 use Rattle.rg_classes.specs.declared.body_row.BodyRow.{BodyRow}
 use Rattle.rg_classes.specs.Written.{Bodied}
 use Rattle.rg_classes.specs.Rows.{body_of, IsBodyIn, AreBodies}

@@ -5,9 +5,9 @@ use Rattle.rg_base.specs.declared.ty.Ty.{Ty}
 use Rattle.rg_code.specs.declared.op.Op.{Op}
 use Rattle.rg_code.specs.declared.op.Op.TheVariants as i
 use Rattle.rg_spell.specs.declared.rows.Head.{Head}
-use Rattle.rg_verify.specs.Statements.{block_ops}
-use Rattle.rg_verify.specs.Blocks.{Given}
-use Rattle.rg_verify.specs.Standing.{block_depth, IsBlockFit, returns}
+use Rattle.rg_verify_expressions.specs.Statements.{block_ops}
+use Rattle.rg_verify_expressions.specs.Blocks.{Given}
+use Rattle.rg_verify_expressions.specs.Standing.{block_depth, IsBlockFit, returns}
 use Rattle.rg_classes.specs.Written.{no_line}
 use Rattle.rg_bodies.specs.declared.ending.Ending.{Ending}
 use Rattle.rg_bodies.specs.declared.ending.Ending.TheVariants as ending

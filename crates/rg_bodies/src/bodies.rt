@@ -18,7 +18,7 @@ use rg_module::Module;
 use rg_raise::Source;
 use rg_spell::Head;
 use rg_tree::Program;
-use rg_verify::{Body, Callee, Refusal};
+use rg_verify_expressions::{Body, Callee, Refusal};
 use std::alloc::Global;
 
 // The types of the variables in front of a method's body.

@@ -1,10 +1,10 @@
 //! Where bodies end (docs/architecture.md, "Modules").
 
 ghost use Rattle.std.specs.Prelude.{◌≡◌, ◌+◌, ◌<◌, ◌^◌, IfSome};
-ghost use Rattle.rg_verify.specs.Signs.{end_of};
-ghost use Rattle.rg_verify.specs.Statements.{Block};
-ghost use Rattle.rg_verify.specs.Blocks.{sign};
-ghost use Rattle.rg_verify.specs.Standing as standing;
+ghost use Rattle.rg_verify_expressions.specs.Signs.{end_of};
+ghost use Rattle.rg_verify_expressions.specs.Statements.{Block};
+ghost use Rattle.rg_verify_expressions.specs.Blocks.{sign};
+ghost use Rattle.rg_verify_expressions.specs.Standing as standing;
 ghost use Rattle.rg_bodies.specs.Bodies as bodies;
 ghost use Rattle.rg_bodies.specs.Bodies.{halt_of, return_void_of};
 ghost use Rattle.rg_bodies.specs.Inner.Ends as inner;

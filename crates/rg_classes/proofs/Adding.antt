@@ -25,7 +25,7 @@ use Rattle.rg_tree.proofs.Grows.{IsBlockIn-grows}
 use Rattle.rg_tree.proofs.Adding.{extends-trans, extends-by, means-later, param-means, member-means}
 use Rattle.rg_spell.specs.declared.rows.Head.{Head}
 use Rattle.rg_spell.specs.declared.rows.Shape.{Shape}
-use Rattle.rg_verify.specs.Naming.{written, field_name, method_name, variable_name, class_name}
+use Rattle.rg_verify_expressions.specs.Naming.{written, field_name, method_name, variable_name, class_name}
 use Rattle.rg_classes.specs.declared.body_row.BodyRow.{BodyRow}
 use Rattle.rg_classes.specs.Written.{Bodied, numbered, field_written, param_written, method_written, members_written, class_written}
 use Rattle.rg_classes.specs.Rows.{body_of, IsBodyIn, AreBodies, AreMethods, AreMembers, result_of, IsResultIn, params_in, AreParamsIn, members_in}

@@ -9,9 +9,9 @@ use Rattle.std.specs.declared.alloc.Global.{Global}
 use Rattle.rg_base.specs.declared.limits.TheConstants.{CLASSES, CLASS_FIELDS, CLASS_METHODS}
 use Rattle.rg_spell.specs.declared.rows.Shape.{Shape}
 use Rattle.rg_spell.specs.declared.rows.Head.{Head}
-use Rattle.rg_verify.specs.declared.callee.Callee.{Callee}
-use Rattle.rg_verify.specs.declared.refusal.Refusal.{Refusal}
-use Rattle.rg_verify.specs.declared.refusal.Refusal.TheVariants as refusal
+use Rattle.rg_verify_expressions.specs.declared.callee.Callee.{Callee}
+use Rattle.rg_verify_expressions.specs.declared.refusal.Refusal.{Refusal}
+use Rattle.rg_verify_expressions.specs.declared.refusal.Refusal.TheVariants as refusal
 use Rattle.rg_classes.specs.Order.{place_of, callees_from, callees_of, takes_methods, may_follow, are_ordered, have_few_fields, are_tables}
 use Rattle.rg_classes.specs.Order.{NumbersCallees, FindsCallees}
 

@@ -5,7 +5,7 @@ use Rattle.rg_base.specs.declared.ty.Ty.{Ty}
 use Rattle.rg_tree.specs.Tree.{Block, Param, Method, Member, field, method, Class}
 use Rattle.rg_spell.specs.declared.rows.Shape.{Shape}
 use Rattle.rg_spell.specs.declared.rows.Head.{Head}
-use Rattle.rg_verify.specs.Naming.{class_name, field_name, method_name, variable_name, written}
+use Rattle.rg_verify_expressions.specs.Naming.{class_name, field_name, method_name, variable_name, written}
 
 -- the line of what has no mark in the code: of a class and a field
 abbrev pub no_line : ℕ

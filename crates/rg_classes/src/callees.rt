@@ -7,7 +7,7 @@ ghost use Rattle.rg_classes.specs.Order.{FindsCallees, NumbersCallees};
 
 use rg_base::{CLASS_FIELDS, CLASS_METHODS, CLASSES, PARAMETERS};
 use rg_spell::{Head, Shape};
-use rg_verify::{Callee, Refusal};
+use rg_verify_expressions::{Callee, Refusal};
 use std::alloc::Global;
 
 // Whether the class of a number takes methods.

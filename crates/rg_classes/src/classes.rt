@@ -15,7 +15,7 @@ use crate::members::{add_fields, add_method, result_row};
 use rg_base::Memory;
 use rg_spell::{Head, Shape};
 use rg_tree::{ClassRow, Program};
-use rg_verify::add_name;
+use rg_verify_expressions::add_name;
 use std::alloc::Global;
 
 /// Methods in order of their classes, with their bodies as rows.

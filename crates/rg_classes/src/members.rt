@@ -6,7 +6,7 @@ ghost use Rattle.rg_tree.specs.Tree as tree;
 ghost use Rattle.rg_tree.specs.Rows.RowTrees.{type_of, param_at, member_at, member_of};
 ghost use Rattle.rg_tree.specs.Rows.RowsExist.{IsTypeIn, IsParamNumber, IsMemberNumber, IsMemberIn};
 ghost use Rattle.rg_tree.specs.Adds.{Extends, Adds, Means};
-ghost use Rattle.rg_verify.specs.Naming.{written};
+ghost use Rattle.rg_verify_expressions.specs.Naming.{written};
 ghost use Rattle.rg_classes.specs.Written.{Bodied, numbered, field_written, param_written};
 ghost use Rattle.rg_classes.specs.Written.{method_written};
 ghost use Rattle.rg_classes.specs.Rows.{result_of, IsResultIn, params_in, AreParamsIn, AreMembers};
@@ -16,7 +16,7 @@ use crate::body_row::BodyRow;
 use rg_base::{Memory, Ty};
 use rg_spell::Head;
 use rg_tree::{MemberRow, ParamRow, Program, Span, TypeRow};
-use rg_verify::add_name;
+use rg_verify_expressions::add_name;
 use std::alloc::Global;
 
 /// Adds what a type needs.

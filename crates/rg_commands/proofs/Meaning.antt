@@ -12,7 +12,7 @@ use Rattle.rg_lines.specs.Laws.{SameRuns}
 use Rattle.rg_module.specs.Parts.{Parts}
 use Rattle.rg_module.specs.Laws.{SpellsOneModule}
 use Rattle.rg_raised.specs.Raises.{Raises}
-use Rattle.rg_verified.specs.Told.{RaisedAlike}
+use Rattle.rg_verify.specs.Told.{RaisedAlike}
 use Rattle.rg_words.specs.declared.status.Status.{Status}
 use Rattle.rg_base.specs.Text.{text}
 use Rattle.rg_words.specs.Commands.{Command, run, plain, fmt, check, code, pack, bulk, exec, when, origin_of, keep_of, is_scheduled}
@@ -26,7 +26,7 @@ use Rattle.rg_commands.specs.Expected.{status_of, run_answer, unless_fault, expe
 use Rattle.rg_base.specs.declared.fault.Code.TheVariants.{Schedule}
 use Rattle.rg_cown.specs.Cargo.{CargoList}
 use Rattle.rg_plan.specs.Plans.{PlanOf}
-use Rattle.rg_sched.specs.Contents.{Content, Away, Empty, Held}
+use Rattle.rg_sched_atomic.specs.Contents.{Content, Away, Empty, Held}
 use Rattle.rg_loading.specs.Laws.{LoadsComeToOne}
 use Rattle.rg_when.specs.Scheduled.{Said, Whole, BadAt, TooLong, schedule_of}
 use Rattle.rg_words.specs.declared.status.Status.TheVariants as status

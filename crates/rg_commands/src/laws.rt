@@ -6,7 +6,7 @@ ghost use Rattle.rg_commands.specs.Laws.{OneAnswer};
 use rg_lines::same_runs;
 use rg_loading::loads_come_to_one;
 use rg_module::at_most_one_module;
-use rg_verified::raised_alike;
+use rg_verify::raised_alike;
 
 /// A command answers the same to its bytes, whichever of the programs that raise a module is meant.
 pub fn answers_are_one()

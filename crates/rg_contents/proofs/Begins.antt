@@ -18,7 +18,7 @@ use Rattle.rg_plan.specs.Plans.{Turn as Behaviour}
 use Rattle.rg_plan.specs.Lines.{no_params, no_result, is_mut}
 use Rattle.rg_plan.specs.Rules.{is_arena, is_bare, has_bare_main}
 use Rattle.rg_plan.specs.Laws.{IsGoodTurn}
-use Rattle.rg_sched.specs.Contents.{Content, Away, Empty, Held, first_of, rest_of, contents_at, given_of, givens}
+use Rattle.rg_sched_atomic.specs.Contents.{Content, Away, Empty, Held, first_of, rest_of, contents_at, given_of, givens}
 use Rattle.rg_contents.specs.Rest.{RestMayBeOwned, IsReady}
 use Rattle.rg_contents.proofs.Methods.{method-among, number-of_method}
 use Rattle.rg_contents.proofs.Owners.{Takes, nothing, other, one, turn-takes}

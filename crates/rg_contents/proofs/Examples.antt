@@ -12,7 +12,7 @@ use Rattle.rg_rules.proofs.Sources.{to, field_named, method_named, class_named}
 use Rattle.rg_cown.specs.Cargo.{CargoList}
 use Rattle.rg_opening.specs.Beginning.{MayOwn}
 use Rattle.rg_plan.specs.Plans.{Turn as Behaviour}
-use Rattle.rg_sched.specs.Contents.{Empty, Held, contents_at, givens}
+use Rattle.rg_sched_atomic.specs.Contents.{Empty, Held, contents_at, givens}
 use Rattle.rg_contents.specs.Rest.{IsReady}
 
 -- class N { v: int; def mut get() { } }

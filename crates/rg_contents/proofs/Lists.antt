@@ -2,7 +2,7 @@
 use Rattle.std.proofs.Common.{◌≡◌, ℕ, zero, suc, List, [], ◌∷◌, get_or, set, Some, slice_get, subst}
 use Rattle.std.proofs.lemmas.Option.{slice_get_within, get_or_from_slice_get}
 use Rattle.std.specs.Prelude.{All}
-use Rattle.rg_sched.specs.Contents.{Content, Empty, first_of, rest_of, put}
+use Rattle.rg_sched_atomic.specs.Contents.{Content, Empty, first_of, rest_of, put}
 
 -- what holds of each place holds behind a write of a value for which it does
 pub set-all : {A : Type 0} (P : ℕ → A → Type 0) (d : A) (xs : List A) (n : ℕ) (x : A) → P n x → ((m : ℕ) → P m (get_or xs m d)) → (m : ℕ)

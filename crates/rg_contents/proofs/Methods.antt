@@ -8,7 +8,7 @@ use Rattle.rg_rules.specs.Types.{method_member, methods_of, method_named}
 use Rattle.rg_names.specs.TreeAnswers.{first_place, methods_before, method_number as place_of_method}
 use Rattle.rg_code.specs.Lowering.{method_place, method_number}
 use Rattle.rg_code.proofs.Method.{methods_among-is}
-use Rattle.rg_sched.specs.Behaviours.{all_methods}
+use Rattle.rg_sched_atomic.specs.Behaviours.{all_methods}
 
 none-some : {A : Type 0} {B : Type 0} {a : A} → None ≡ Some a → B
 none-some e = grind arith

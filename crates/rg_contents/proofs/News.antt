@@ -19,8 +19,8 @@ use Rattle.rg_plan.specs.declared.cown.Cown.{Cown}
 use Rattle.rg_plan.specs.declared.cown.Start.{Start}
 use Rattle.rg_plan.specs.declared.cown.Start.TheVariants.{New, Image}
 use Rattle.rg_plan.specs.Laws.{IsGoodStart, IsGoodCown}
-use Rattle.rg_sched.specs.Contents.{Empty, Held}
-use Rattle.rg_sched.specs.Settings.{new_content, start_of, start_contents}
+use Rattle.rg_sched_atomic.specs.Contents.{Empty, Held}
+use Rattle.rg_sched_atomic.specs.Settings.{new_content, start_of, start_contents}
 use Rattle.rg_contents.specs.Rest.{ImagesMayBeOwned}
 use Rattle.rg_contents.proofs.Returns.{OwnedAt, none-owned, held-is}
 

@@ -18,7 +18,7 @@ use Rattle.rg_opening.specs.Beginning.{MayOwn}
 use Rattle.rg_opening.specs.Laws.{ContentGoesBack}
 use Rattle.rg_first.specs.First.{IsOfBehaviour}
 use Rattle.rg_plan.specs.declared.cown.Cown.{Cown}
-use Rattle.rg_sched.specs.Contents.{Content, Away, Empty, Held, onto_if, iso_values, content_of, goes_back, left_by}
+use Rattle.rg_sched_atomic.specs.Contents.{Content, Away, Empty, Held, onto_if, iso_values, content_of, goes_back, left_by}
 use Rattle.rg_contents.proofs.Lists.{AllPut, put-none}
 use Rattle.rg_contents.proofs.Owners.{Takes, nothing, other, one}
 

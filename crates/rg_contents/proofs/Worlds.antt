@@ -13,11 +13,11 @@ use Rattle.rg_first.specs.First.{IsOfBehaviour}
 use Rattle.rg_first.proofs.Runs.{runs-go_on, first-of_runs}
 use Rattle.rg_plan.specs.Plans.{Turn as Behaviour, PlanOf}
 use Rattle.rg_plan.specs.Laws.{IsGoodCown, IsGoodTurn, IsGoodPlan, PlansAreGood}
-use Rattle.rg_sched.specs.Contents.{contents_at, givens, left_by}
-use Rattle.rg_sched.specs.Behaviours.{all_methods, idle, run_of}
-use Rattle.rg_sched.specs.Settings.{setting_of}
-use Rattle.rg_sched.specs.Atomic.{Told, tell, World}
-use Rattle.rg_sched.specs.Events.{may_begin, begins, one_more, event_by, event_of, event, after, first_world}
+use Rattle.rg_sched_atomic.specs.Contents.{contents_at, givens, left_by}
+use Rattle.rg_sched_atomic.specs.Behaviours.{all_methods, idle, run_of}
+use Rattle.rg_sched_atomic.specs.Settings.{setting_of}
+use Rattle.rg_sched_atomic.specs.Atomic.{Told, tell, World}
+use Rattle.rg_sched_atomic.specs.Events.{may_begin, begins, one_more, event_by, event_of, event, after, first_world}
 use Rattle.rg_contents.specs.Rest.{ImagesMayBeOwned, RestMayBeOwned, IsReady}
 use Rattle.rg_contents.specs.Laws.{IsReached, ContentsMayBeOwned, BeginningIsAllowed, RunsAreOfBehaviours}
 use Rattle.rg_contents.proofs.Lists.{set-all, put-all, all-at}

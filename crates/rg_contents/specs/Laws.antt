@@ -8,10 +8,10 @@ use Rattle.rg_cown.specs.Cargo.{CargoList}
 use Rattle.rg_first.specs.First.{IsOfBehaviour}
 use Rattle.rg_plan.specs.Plans.{Turn as Behaviour, PlanOf}
 use Rattle.rg_plan.specs.Rules.{plan_of}
-use Rattle.rg_sched.specs.Contents.{contents_at, givens}
-use Rattle.rg_sched.specs.Settings.{setting_of}
-use Rattle.rg_sched.specs.Atomic.{World}
-use Rattle.rg_sched.specs.Events.{world_after}
+use Rattle.rg_sched_atomic.specs.Contents.{contents_at, givens}
+use Rattle.rg_sched_atomic.specs.Settings.{setting_of}
+use Rattle.rg_sched_atomic.specs.Atomic.{World}
+use Rattle.rg_sched_atomic.specs.Events.{world_after}
 use Rattle.rg_contents.specs.Rest.{ImagesMayBeOwned, RestMayBeOwned, IsReady}
 
 -- a world behind a schedule of a plan that is read for an accepted program, with contents of its images that may be owned

@@ -10,8 +10,8 @@ use Rattle.rg_opening.specs.Beginning.{MayOwn, MayBegin}
 use Rattle.rg_plan.specs.declared.cown.Cown.{Cown}
 use Rattle.rg_plan.specs.declared.cown.Start.TheVariants.{Image}
 use Rattle.rg_plan.specs.Plans.{Turn as Behaviour}
-use Rattle.rg_sched.specs.Contents.{Content, Empty, Held}
-use Rattle.rg_sched.specs.Behaviours.{all_methods}
+use Rattle.rg_sched_atomic.specs.Contents.{Content, Empty, Held}
+use Rattle.rg_sched_atomic.specs.Behaviours.{all_methods}
 
 -- the content of each image is one that a field `iso C` may own, where the line says `load C ..`
 abbrev pub ImagesMayBeOwned : Tree → List Cown → (images : List CargoList) → Type 0

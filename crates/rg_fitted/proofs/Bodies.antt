@@ -18,9 +18,9 @@ use Rattle.rg_code.specs.Lowering.{method_scope, method_end_code, method_code}
 use Rattle.rg_code.specs.Lowering.{main_code, slots_of, Methods, members_code, methods_code, lowered}
 use Rattle.rg_build.specs.Maps.{block_maps, is_end_marked, method_maps, members_maps, methods_maps, maps_of}
 use Rattle.rg_build.specs.ModuleOf.{laid}
-use Rattle.rg_verify.specs.Statements.{block_ops}
-use Rattle.rg_verify.specs.Blocks.{Piece}
-use Rattle.rg_verify.specs.Found.{types_of, BlocksHaveTheirCode}
+use Rattle.rg_verify_expressions.specs.Statements.{block_ops}
+use Rattle.rg_verify_expressions.specs.Blocks.{Piece}
+use Rattle.rg_verify_expressions.specs.Found.{types_of, BlocksHaveTheirCode}
 use Rattle.rg_numbered.specs.Numbered.{numbered_block}
 use Rattle.rg_numbered.specs.ModuleNames.{HasModuleNames}
 use Rattle.rg_numbered.specs.Laws.{IsNumbered}
@@ -30,7 +30,7 @@ use Rattle.rg_fitted.specs.Laws.{end_mark, MapsStand, ModulesFit, given_of, body
 use Rattle.rg_fitted.proofs.Laid.{Laid, skip}
 use Rattle.rg_fitted.proofs.Callees.{among, callees-stand}
 use Rattle.rg_build.proofs.Marks.{marks-then, block-marks, method-marks}
-use Rattle.rg_verify.specs.Standing.{returns, Closes}
+use Rattle.rg_verify_expressions.specs.Standing.{returns, Closes}
 use Rattle.rg_fitted.proofs.Ends.{ends-returns, closes-by-return, closes-by-mark}
 use Rattle.rg_fitted.proofs.Fit.{accepted-fit}
 

@@ -4,7 +4,7 @@ use Rattle.std.proofs.Common.{◌++◌, length, find, filter_map, slice_get, Opt
 use Rattle.rg_tree.specs.Tree.{Name, Member, field, method, Method, Class}
 use Rattle.rg_rules.specs.Types.{method_member, members_of, methods_of, method_result}
 use Rattle.rg_code.specs.Lowering.{methods_among, method_place, method_number, number_called}
-use Rattle.rg_verify.specs.declared.callee.Callee.{Callee}
+use Rattle.rg_verify_expressions.specs.declared.callee.Callee.{Callee}
 use Rattle.rg_numbered.proofs.Classes.{none-some, some-is}
 use Rattle.rg_fitted.specs.Callees.{class_callees, callees_from, callees}
 use Rattle.rg_fitted.specs.Laws.{AreMethodsOf}

@@ -10,9 +10,9 @@ use Rattle.rg_rules.specs.Bodies.{is_return, last_is_return}
 use Rattle.rg_code.specs.declared.op.Op.{Op}
 use Rattle.rg_code.specs.declared.op.Op.TheVariants as i
 use Rattle.rg_code.specs.Lowering.{Scope, scope_behind}
-use Rattle.rg_verify.specs.Signs.{mark_of, closing_of}
-use Rattle.rg_verify.specs.Blocks.{◌>>=◌, is_last}
-use Rattle.rg_verify.specs.Standing.{returns, Closes}
+use Rattle.rg_verify_expressions.specs.Signs.{mark_of, closing_of}
+use Rattle.rg_verify_expressions.specs.Blocks.{◌>>=◌, is_last}
+use Rattle.rg_verify_expressions.specs.Standing.{returns, Closes}
 use Rattle.rg_numbered.specs.Numbered.{numbered_kind, numbered_block}
 use Rattle.rg_fitted.proofs.Laid.{drop-is}
 

@@ -30,13 +30,13 @@ use Rattle.rg_code.specs.Lowering.{Slot, Scope, slot_of, type_in, type_along, me
 use Rattle.rg_code.specs.Lowering.{scope_behind, scope_inside, scope_at_end, method_scope}
 use Rattle.rg_build.specs.Maps.{is_end_marked}
 use Rattle.rg_build.specs.ModuleOf.{laid}
-use Rattle.rg_verify.specs.declared.callee.Callee.{Callee}
-use Rattle.rg_verify.specs.Raised.{path_ops}
-use Rattle.rg_verify.specs.Statements as numbers
-use Rattle.rg_verify.specs.Statements.{types_behind, types_inside, whole_ops, leave_op, else_gap, kind_ops, else_ops, block_ops}
-use Rattle.rg_verify.specs.Found.{types_of}
-use Rattle.rg_verify.specs.Blocks.{Given, is_last}
-use Rattle.rg_verify.specs.Standing.{IsCallee, IsRightFit, IsKindFit, IsElseFit, IsBlockFit}
+use Rattle.rg_verify_expressions.specs.declared.callee.Callee.{Callee}
+use Rattle.rg_verify_expressions.specs.Raised.{path_ops}
+use Rattle.rg_verify_expressions.specs.Statements as numbers
+use Rattle.rg_verify_expressions.specs.Statements.{types_behind, types_inside, whole_ops, leave_op, else_gap, kind_ops, else_ops, block_ops}
+use Rattle.rg_verify_expressions.specs.Found.{types_of}
+use Rattle.rg_verify_expressions.specs.Blocks.{Given, is_last}
+use Rattle.rg_verify_expressions.specs.Standing.{IsCallee, IsRightFit, IsKindFit, IsElseFit, IsBlockFit}
 use Rattle.rg_numbered.specs.Numbered.{path_numbers, numbered, numbered_call, numbered_right, numbered_assign, numbered_swap, bridge_class}
 use Rattle.rg_numbered.specs.Numbered.{numbered_enter, giving_slot, numbered_kind, numbered_else, numbered_block}
 use Rattle.rg_numbered.specs.ModuleNames.{HasSlotNames, HasElseSlotNames, HaveSlotNames}

@@ -10,8 +10,8 @@ use Rattle.rg_code.specs.declared.op.Op.TheVariants as i
 use Rattle.rg_code.specs.Places.{is_mark}
 use Rattle.rg_build.specs.ModuleOf.{map_here, maps_behind, laid}
 use Rattle.rg_build.specs.Laws.{marks}
-use Rattle.rg_verify.specs.Blocks.{◌>>=◌}
-use Rattle.rg_verify.specs.Standing.{type_mapped}
+use Rattle.rg_verify_expressions.specs.Blocks.{◌>>=◌}
+use Rattle.rg_verify_expressions.specs.Standing.{type_mapped}
 
 laid-then : (a b : List Op) (ms ns : List (List Ty)) → marks a ≡ length ms → laid (a ++ b) (ms ++ ns) ≡ laid a ms ++ laid b ns
 laid-then [] b [] ns h = refl

@@ -6,9 +6,9 @@ use Rattle.rg_tree.specs.Tree as tree
 use Rattle.rg_tree.specs.Tree.{Name, Variable, Path, stmt, Class}
 use Rattle.rg_code.specs.Lowering.{Slot, Scope, scope_behind, scope_inside, scope_at_end}
 use Rattle.rg_build.specs.Maps.{end_maps, inner_maps, else_maps, block_maps}
-use Rattle.rg_verify.specs.Statements.{Right, Kind, declare, assign, write, write_element, call, swap, branch, while, enter, enter_field, print}
-use Rattle.rg_verify.specs.Statements.{collect, return, Else, no_else, otherwise, Block, empty, next, types_behind, types_inside}
-use Rattle.rg_verify.specs.Found.{types_of}
+use Rattle.rg_verify_expressions.specs.Statements.{Right, Kind, declare, assign, write, write_element, call, swap, branch, while, enter, enter_field, print}
+use Rattle.rg_verify_expressions.specs.Statements.{collect, return, Else, no_else, otherwise, Block, empty, next, types_behind, types_inside}
+use Rattle.rg_verify_expressions.specs.Found.{types_of}
 use Rattle.rg_numbered.specs.Numbered.{numbered_right, numbered_assign, numbered_swap, bridge_class, numbered_enter, giving_slot, numbered_kind}
 use Rattle.rg_numbered.specs.Numbered.{numbered_else, numbered_block}
 

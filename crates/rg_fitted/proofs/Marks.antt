@@ -10,13 +10,13 @@ use Rattle.rg_code.specs.declared.op.Op.TheVariants as i
 use Rattle.rg_code.specs.Places.{is_mark}
 use Rattle.rg_code.specs.Lowering.{gap, operator_code, clears, dropped_code}
 use Rattle.rg_build.specs.Laws.{marks}
-use Rattle.rg_verify.specs.Raised.{Raised, number, boolean, nil, path, is_nil, size, element, neg, not, binary, path_ops, holder_ops, place_ops}
-use Rattle.rg_verify.specs.Raised.{ops_of, all_ops}
-use Rattle.rg_verify.specs.Statements.{Call, Right, value, new, new_tmp, new_iso, freeze, merge, read, more, result_of, Kind, declare, assign, write}
-use Rattle.rg_verify.specs.Statements.{write_element, call, swap, branch, while, enter, enter_field, print, collect, return, Else, no_else, otherwise}
-use Rattle.rg_verify.specs.Statements.{Block, empty, next, type_at, used, all_used, types_behind, types_inside}
-use Rattle.rg_verify.specs.Statements.{whole_ops, call_ops, new_ops, right_ops}
-use Rattle.rg_verify.specs.Statements.{pace_ops, assign_op, leave_op, else_gap, kind_ops, else_ops, block_ops}
+use Rattle.rg_verify_expressions.specs.Raised.{Raised, number, boolean, nil, path, is_nil, size, element, neg, not, binary, path_ops, holder_ops, place_ops}
+use Rattle.rg_verify_expressions.specs.Raised.{ops_of, all_ops}
+use Rattle.rg_verify_expressions.specs.Statements.{Call, Right, value, new, new_tmp, new_iso, freeze, merge, read, more, result_of, Kind, declare, assign, write}
+use Rattle.rg_verify_expressions.specs.Statements.{write_element, call, swap, branch, while, enter, enter_field, print, collect, return, Else, no_else, otherwise}
+use Rattle.rg_verify_expressions.specs.Statements.{Block, empty, next, type_at, used, all_used, types_behind, types_inside}
+use Rattle.rg_verify_expressions.specs.Statements.{whole_ops, call_ops, new_ops, right_ops}
+use Rattle.rg_verify_expressions.specs.Statements.{pace_ops, assign_op, leave_op, else_gap, kind_ops, else_ops, block_ops}
 use Rattle.rg_fitted.proofs.Maps.{inner_types, else_types, block_types}
 
 marks_by : (b : Truth) (a c : ℕ) → (if b then suc a else a) + c ≡ (if b then suc (a + c) else a + c)

@@ -3,7 +3,7 @@ use Rattle.std.specs.Prelude.{ℕ, suc, ◌+◌, List, [], ◌∷◌, ◌++◌, 
 use Rattle.rg_tree.specs.Tree.{Method, Class}
 use Rattle.rg_rules.specs.Types.{method_result}
 use Rattle.rg_code.specs.Lowering.{methods_among}
-use Rattle.rg_verify.specs.declared.callee.Callee.{Callee}
+use Rattle.rg_verify_expressions.specs.declared.callee.Callee.{Callee}
 
 -- the methods of a class in order, of which the first has this number through the program and this place in its class
 abbrev pub class_callees : List Class → (number place : ℕ) → List Method → List Callee

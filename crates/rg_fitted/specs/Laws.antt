@@ -10,11 +10,11 @@ use Rattle.rg_code.specs.declared.code.Entry.{Entry}
 use Rattle.rg_code.specs.Lowering.{Scope, method_scope, method_place, number_called, lowered}
 use Rattle.rg_build.specs.Maps.{block_maps, is_end_marked, maps_of}
 use Rattle.rg_build.specs.ModuleOf.{laid}
-use Rattle.rg_verify.specs.declared.callee.Callee.{Callee}
-use Rattle.rg_verify.specs.Statements.{block_ops}
-use Rattle.rg_verify.specs.Found.{types_of}
-use Rattle.rg_verify.specs.Blocks.{Given}
-use Rattle.rg_verify.specs.Standing.{IsBlockFit, BlockStand}
+use Rattle.rg_verify_expressions.specs.declared.callee.Callee.{Callee}
+use Rattle.rg_verify_expressions.specs.Statements.{block_ops}
+use Rattle.rg_verify_expressions.specs.Found.{types_of}
+use Rattle.rg_verify_expressions.specs.Blocks.{Given}
+use Rattle.rg_verify_expressions.specs.Standing.{IsBlockFit, BlockStand}
 use Rattle.rg_numbered.specs.Numbered.{numbered_block}
 use Rattle.rg_numbered.specs.ModuleNames.{HasModuleNames}
 use Rattle.rg_fitted.specs.Callees.{callees}

@@ -17,5 +17,5 @@ pub fn callees_are_methods()
 pub fn modules_fit()
     ensures { ModulesFit }
 {
-    rg_verify::blocks_have_their_code();
+    rg_verify_expressions::blocks_have_their_code();
 }

@@ -1,9 +1,9 @@
 //! The blocks with numbers of a program stand where its code has them (docs/architecture.md,
 //! "Modules"), by laws of accepted programs whose names are those of a module. A body fits
-//! (`IsBlockFit` of `rg_verify`) wherever the maps of its marks stand, with methods that are those
+//! (`IsBlockFit` of `rg_verify_expressions`) wherever the maps of its marks stand, with methods that are those
 //! of the program (`accepted_are_fit`); `callees` of `specs/Callees` are such methods
 //! (`callees_are_methods`). In the code and the maps of the program's module main's block stands
-//! at 0 (`BlockStand` of `rg_verify`), and that of each method where its entry says that the method
+//! at 0 (`BlockStand` of `rg_verify_expressions`), and that of each method where its entry says that the method
 //! begins (`modules_fit`).
 #![tactic(auto)]
 

@@ -21,7 +21,7 @@ use Rattle.rg_sound.proofs.Frames.Judge.{judge_declare-parts, judge_assign-stays
 use Rattle.rg_sound.proofs.Frames.Judge.{judge_enter-variable, judge_enter-field, judge_enter-inner, left-stays, judge_else-goes, judge_block-goes}
 use Rattle.rg_sound.proofs.Frames.Judge.{judge_kind-goes}
 use Rattle.rg_code.specs.Lowering.{Scope, type_in, type_along, class_of, scope_behind, scope_inside}
-use Rattle.rg_verify.specs.Naming.{variable_name}
+use Rattle.rg_verify_expressions.specs.Naming.{variable_name}
 use Rattle.rg_numbered.specs.ModuleNames.{HasSlotNames}
 use Rattle.rg_numbered.proofs.Classes.{ClassesNamed}
 use Rattle.rg_numbered.proofs.Scopes.{ok-is, iso-of, Matches, matches-more, matches-stays, marked-matches, type-found, IsScoped, scoped-variable}

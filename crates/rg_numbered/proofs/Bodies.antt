@@ -10,7 +10,7 @@ use Rattle.rg_rules.specs.Acceptance.{Accepted}
 use Rattle.rg_rules.proofs.Acceptance.{Accepted-parts, Accepted-method}
 use Rattle.rg_sound.proofs.Frames.Method.{method-front}
 use Rattle.rg_code.specs.Lowering.{Slot, Scope, with_slot, with_params, method_scope}
-use Rattle.rg_verify.specs.Naming.{variable_name, variable_in}
+use Rattle.rg_verify_expressions.specs.Naming.{variable_name, variable_in}
 use Rattle.rg_numbered.specs.ModuleNames.{AreNamed, HaveSlotNames, HasModuleNames}
 use Rattle.rg_numbered.specs.Laws.{AcceptedAreNumbered}
 use Rattle.rg_numbered.proofs.Classes.{ClassesNamed, none-behind, body-named}

@@ -13,8 +13,8 @@ use Rattle.rg_rules.specs.Types.{methods_of, field_place, field_type, method_nam
 use Rattle.rg_rules.specs.Types.{field_member, method_member}
 use Rattle.rg_rules.proofs.Answers.{bind-ok, ok_or-ok}
 use Rattle.rg_code.specs.Lowering.{field_number, type_behind, method_place}
-use Rattle.rg_verify.specs.Naming.{field_name, class_name, method_name, written}
-use Rattle.rg_verify.specs.Raised.{AreFound}
+use Rattle.rg_verify_expressions.specs.Naming.{field_name, class_name, method_name, written}
+use Rattle.rg_verify_expressions.specs.Raised.{AreFound}
 use Rattle.rg_numbered.specs.Numbered.{field_numbers}
 use Rattle.rg_numbered.specs.ModuleNames.{AreNamed, HasVariableNames, HasMemberNames}
 

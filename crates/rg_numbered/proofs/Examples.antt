@@ -8,9 +8,9 @@ use Rattle.rg_base.specs.declared.ty.Ty.TheVariants as ty
 use Rattle.rg_tree.specs.Tree as tree
 use Rattle.rg_tree.specs.Tree.{Class, Method, Block, StmtKind, stmt, then as next, field, method}
 use Rattle.rg_code.specs.Lowering.{method_scope}
-use Rattle.rg_verify.specs.Raised.{number, path}
-use Rattle.rg_verify.specs.Statements as numbers
-use Rattle.rg_verify.specs.Found.{block_named}
+use Rattle.rg_verify_expressions.specs.Raised.{number, path}
+use Rattle.rg_verify_expressions.specs.Statements as numbers
+use Rattle.rg_verify_expressions.specs.Found.{block_named}
 use Rattle.rg_numbered.specs.Numbered.{numbered_block}
 use Rattle.rg_numbered.specs.ModuleNames.{HasModuleNames}
 

@@ -23,9 +23,9 @@ use Rattle.rg_rules.proofs.Path.{follow-ok}
 use Rattle.rg_rules.proofs.Expression.{binary-ok, element-ok}
 use Rattle.rg_sound.proofs.Frames.JudgeRight.{judge_expr-stays}
 use Rattle.rg_code.specs.Lowering.{Scope, slot_of, method_place, number_called, target_class, call_result, type_in, type_along}
-use Rattle.rg_verify.specs.Naming.{variable_name, variable_in, class_name, method_name}
-use Rattle.rg_verify.specs.Raised.{path_named, named, IsFound}
-use Rattle.rg_verify.specs.Found.{call_named, right_named, IsSlotFound, IsCallFound, IsCountFound, IsRightFound}
+use Rattle.rg_verify_expressions.specs.Naming.{variable_name, variable_in, class_name, method_name}
+use Rattle.rg_verify_expressions.specs.Raised.{path_named, named, IsFound}
+use Rattle.rg_verify_expressions.specs.Found.{call_named, right_named, IsSlotFound, IsCallFound, IsCountFound, IsRightFound}
 use Rattle.rg_numbered.specs.Numbered.{path_numbers, numbered, numbered_call, numbered_right}
 use Rattle.rg_numbered.proofs.Classes.{ClassesNamed, class_is, good-class, method-named}
 use Rattle.rg_numbered.proofs.Scopes.{class_of-is, IsScoped, scoped-variable, scoped-stays, slot-name, PathKnown, walked, path-again, path-found}

@@ -17,8 +17,8 @@ use Rattle.rg_rules.proofs.Answers.{bind-ok, test-then, ok_or-ok}
 use Rattle.rg_rules.proofs.Path.{look_up-ok}
 use Rattle.rg_sound.proofs.Frames.Entry.{Distinct, Keeps, Stays, Stays-distinct, same_variable-true}
 use Rattle.rg_code.specs.Lowering.{Slot, Scope, with_slot, slot_of, type_in, type_behind, type_along, class_of}
-use Rattle.rg_verify.specs.Naming.{variable_name, variable_in, field_name}
-use Rattle.rg_verify.specs.Raised.{path_named, IsPathFound, AreFound}
+use Rattle.rg_verify_expressions.specs.Naming.{variable_name, variable_in, field_name}
+use Rattle.rg_verify_expressions.specs.Raised.{path_named, IsPathFound, AreFound}
 use Rattle.rg_numbered.specs.Numbered.{path_numbers}
 use Rattle.rg_numbered.proofs.Classes.{none-behind, some-is, none-some, class_is, ClassesNamed, field-named, Known, known-named, known-found}
 

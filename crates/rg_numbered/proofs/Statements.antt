@@ -23,12 +23,12 @@ use Rattle.rg_sound.proofs.Frames.Judge.{judge_test-stays}
 use Rattle.rg_code.specs.Lowering.{Slot, Scope, slot_of, type_in, type_along, type_behind, class_of}
 use Rattle.rg_code.specs.Lowering.{field_number, held_number, scope_behind, scope_inside}
 use Rattle.rg_code.specs.Lowering.{scope_at_end}
-use Rattle.rg_verify.specs.Naming.{variable_name, written}
-use Rattle.rg_verify.specs.Raised.{path_named, named, IsPathFound}
-use Rattle.rg_verify.specs.Statements as numbers
-use Rattle.rg_verify.specs.Found as found
-use Rattle.rg_verify.specs.Found.{right_named, kind_named, else_named, block_named, IsEntryFound, IsGivingFound}
-use Rattle.rg_verify.specs.Found.{IsKindFound, IsElseFound, IsBlockFound}
+use Rattle.rg_verify_expressions.specs.Naming.{variable_name, written}
+use Rattle.rg_verify_expressions.specs.Raised.{path_named, named, IsPathFound}
+use Rattle.rg_verify_expressions.specs.Statements as numbers
+use Rattle.rg_verify_expressions.specs.Found as found
+use Rattle.rg_verify_expressions.specs.Found.{right_named, kind_named, else_named, block_named, IsEntryFound, IsGivingFound}
+use Rattle.rg_verify_expressions.specs.Found.{IsKindFound, IsElseFound, IsBlockFound}
 use Rattle.rg_numbered.specs.Numbered.{field_numbers, path_numbers, numbered, numbered_right, numbered_assign, numbered_swap, bridge_class}
 use Rattle.rg_numbered.specs.Numbered.{numbered_enter, giving_slot, numbered_kind, numbered_else, numbered_block}
 use Rattle.rg_numbered.specs.ModuleNames.{slots_behind, HasSlotNames, HasElseSlotNames, HaveSlotNames}

@@ -5,7 +5,7 @@ use Rattle.std.specs.List.{AllByRecursion}
 use Rattle.rg_tree.specs.Tree.{Name, stmt, StmtKind, declare, assign, assign_element, call, swap, branch, while, enter, print, collect, return}
 use Rattle.rg_tree.specs.Tree.{Else, no_else, otherwise, Block, empty, then as next, Param, Field, Method, Class, Tree}
 use Rattle.rg_rules.specs.Types.{field_member, method_member}
-use Rattle.rg_verify.specs.Naming.{variable_name, field_name, class_name, method_name}
+use Rattle.rg_verify_expressions.specs.Naming.{variable_name, field_name, class_name, method_name}
 
 -- things in order have the names of their numbers, of which the first one has this number
 abbrev pub AreNamed : {A : Type 0} → (A → Name) → (name : ℕ → Name) → (k : ℕ) → List A → Type 0

@@ -1,5 +1,5 @@
 -- The bodies of a program with numbers in place of names (docs/architecture.md, "Modules"): the way back from `named`, `right_named` and
--- `block_named` of rg_verify. A variable is the number of its slot, a field that of its place in its class, and classes and methods are those
+-- `block_named` of rg_verify_expressions. A variable is the number of its slot, a field that of its place in its class, and classes and methods are those
 -- of rg_code/specs/Lowering. A name that isn't there gets some number all the same, as it gets some code there.
 use Rattle.std.specs.Prelude.{ℕ, List, [], ◌∷◌, map, Option, option_map, Some}
 use Rattle.rg_base.specs.declared.ty.Ty.{Ty}
@@ -10,9 +10,9 @@ use Rattle.rg_rules.specs.Types.{class_number, type_of, methods_of}
 use Rattle.rg_rules.specs.Paths.{all_but_last}
 use Rattle.rg_code.specs.Lowering.{Scope, slot_of, type_in, field_number, type_behind, type_along, held_number, class_of, method_place, number_called}
 use Rattle.rg_code.specs.Lowering.{target_class, call_result, scope_behind, scope_inside, scope_at_end}
-use Rattle.rg_verify.specs.Raised as raised
-use Rattle.rg_verify.specs.Raised.{Raised}
-use Rattle.rg_verify.specs.Statements as numbers
+use Rattle.rg_verify_expressions.specs.Raised as raised
+use Rattle.rg_verify_expressions.specs.Raised.{Raised}
+use Rattle.rg_verify_expressions.specs.Statements as numbers
 
 -- the numbers of fields in order, behind a type
 abbrev pub field_numbers : List Class → Ty → List Name → List ℕ

@@ -13,18 +13,18 @@ use Rattle.rg_tree.specs.Rows.RowsExist.{IsExprNumber}
 use Rattle.rg_tree.proofs.Callers.{Keeps-same}
 use Rattle.rg_tree.proofs.Adding.{extends-same}
 use Rattle.rg_code.specs.declared.op.Op.{Op}
-use Rattle.rg_verify.specs.declared.refusal.Refusal.{Refusal}
-use Rattle.rg_verify.specs.declared.refusal.Refusal.TheVariants as refusal
-use Rattle.rg_verify.specs.declared.front.FrontRow.{FrontRow}
-use Rattle.rg_verify.specs.declared.front.FrontRow.TheVariants as front
-use Rattle.rg_verify.specs.Raised.{Raised, named, Front, expression, object, place}
-use Rattle.rg_verify.specs.Rows.{front_named, front_at, IsFrontIn, IsTree}
-use Rattle.rg_verify.specs.Raises.{Stand, RaisesAll}
-use Rattle.rg_verify.specs.Raising.{raised, walk}
-use Rattle.rg_verify.specs.Statements.{used, all_used}
-use Rattle.rg_verify.specs.Blocks.{◌>>=◌, Told, values_in}
-use Rattle.rg_verify.proofs.Raises.{raised-stand}
-use Rattle.rg_verify.proofs.Again.{stand-raised}
+use Rattle.rg_verify_expressions.specs.declared.refusal.Refusal.{Refusal}
+use Rattle.rg_verify_expressions.specs.declared.refusal.Refusal.TheVariants as refusal
+use Rattle.rg_verify_expressions.specs.declared.front.FrontRow.{FrontRow}
+use Rattle.rg_verify_expressions.specs.declared.front.FrontRow.TheVariants as front
+use Rattle.rg_verify_expressions.specs.Raised.{Raised, named, Front, expression, object, place}
+use Rattle.rg_verify_expressions.specs.Rows.{front_named, front_at, IsFrontIn, IsTree}
+use Rattle.rg_verify_expressions.specs.Raises.{Stand, RaisesAll}
+use Rattle.rg_verify_expressions.specs.Raising.{raised, walk}
+use Rattle.rg_verify_expressions.specs.Statements.{used, all_used}
+use Rattle.rg_verify_expressions.specs.Blocks.{◌>>=◌, Told, values_in}
+use Rattle.rg_verify_expressions.proofs.Raises.{raised-stand}
+use Rattle.rg_verify_expressions.proofs.Again.{stand-raised}
 use Rattle.rg_raise.specs.declared.said.Fronts.{Fronts}
 use Rattle.rg_raise.specs.Uses.{used_in}
 use Rattle.rg_raise.specs.Fronts.{IsFront, AreFrontRows, AreTrees, AreFrontsAt, AreLeft, MakesFronts, TakesFront, TakesFirst, start_by, rows_alone}

@@ -13,18 +13,18 @@ use Rattle.rg_tree.specs.Rows.RowTrees.{path_of, type_of}
 use Rattle.rg_tree.specs.Rows.RowsExist.{IsNameIn, IsTypeIn, IsPathIn}
 use Rattle.rg_tree.specs.Adds.{Extends, Means, Adds}
 use Rattle.rg_tree.proofs.Adding.{extends-trans, means-later}
-use Rattle.rg_verify.specs.declared.refusal.Refusal.{Refusal}
-use Rattle.rg_verify.specs.declared.signs.Target.{Target}
-use Rattle.rg_verify.specs.declared.signs.Target.TheVariants as target
-use Rattle.rg_verify.specs.Naming.{variable_name, written}
-use Rattle.rg_verify.specs.Raised.{Raised, path_named, named, Front}
-use Rattle.rg_verify.specs.Rows.{IsTree}
-use Rattle.rg_verify.specs.Statements.{Right, assign, write, write_element, type_at}
-use Rattle.rg_verify.specs.Statements as statements
-use Rattle.rg_verify.specs.Found.{right_named}
-use Rattle.rg_verify.specs.Signs.{target_of, put_of, put_element_of}
-use Rattle.rg_verify.specs.Blocks.{◌>>=◌, Given, sign, slot_type, right_behind, paces, paced, stored, taken_by, taken, written_to}
-use Rattle.rg_verify.specs.Blocks.{element_written}
+use Rattle.rg_verify_expressions.specs.declared.refusal.Refusal.{Refusal}
+use Rattle.rg_verify_expressions.specs.declared.signs.Target.{Target}
+use Rattle.rg_verify_expressions.specs.declared.signs.Target.TheVariants as target
+use Rattle.rg_verify_expressions.specs.Naming.{variable_name, written}
+use Rattle.rg_verify_expressions.specs.Raised.{Raised, path_named, named, Front}
+use Rattle.rg_verify_expressions.specs.Rows.{IsTree}
+use Rattle.rg_verify_expressions.specs.Statements.{Right, assign, write, write_element, type_at}
+use Rattle.rg_verify_expressions.specs.Statements as statements
+use Rattle.rg_verify_expressions.specs.Found.{right_named}
+use Rattle.rg_verify_expressions.specs.Signs.{target_of, put_of, put_element_of}
+use Rattle.rg_verify_expressions.specs.Blocks.{◌>>=◌, Given, sign, slot_type, right_behind, paces, paced, stored, taken_by, taken, written_to}
+use Rattle.rg_verify_expressions.specs.Blocks.{element_written}
 use Rattle.rg_raise.specs.declared.said.RightSaid.{RightSaid}
 use Rattle.rg_raise.specs.declared.said.KindSaid.{KindSaid}
 use Rattle.rg_raise.specs.declared.said.After.TheVariants as after

@@ -10,14 +10,14 @@ use Rattle.rg_tree.specs.Rows.RowTrees.{path_of}
 use Rattle.rg_tree.specs.Rows.RowsExist.{IsNameIn, IsPathIn}
 use Rattle.rg_tree.specs.Adds.{Extends, Means, Adds}
 use Rattle.rg_tree.proofs.Adding.{extends-same, extends-trans, means-later}
-use Rattle.rg_verify.specs.declared.refusal.Refusal.{Refusal}
-use Rattle.rg_verify.specs.declared.front.FrontRow.{FrontRow}
-use Rattle.rg_verify.specs.Naming.{variable_name}
-use Rattle.rg_verify.specs.Raised.{Raised, Front, path_named}
-use Rattle.rg_verify.specs.Statements.{Call, Kind, call, swap}
-use Rattle.rg_verify.specs.Found.{call_named}
-use Rattle.rg_verify.specs.Signs.{target_of}
-use Rattle.rg_verify.specs.Blocks.{◌>>=◌, Given, Told, sign, called, dropped, call_by, written_to, room_by, swap_by}
+use Rattle.rg_verify_expressions.specs.declared.refusal.Refusal.{Refusal}
+use Rattle.rg_verify_expressions.specs.declared.front.FrontRow.{FrontRow}
+use Rattle.rg_verify_expressions.specs.Naming.{variable_name}
+use Rattle.rg_verify_expressions.specs.Raised.{Raised, Front, path_named}
+use Rattle.rg_verify_expressions.specs.Statements.{Call, Kind, call, swap}
+use Rattle.rg_verify_expressions.specs.Found.{call_named}
+use Rattle.rg_verify_expressions.specs.Signs.{target_of}
+use Rattle.rg_verify_expressions.specs.Blocks.{◌>>=◌, Given, Told, sign, called, dropped, call_by, written_to, room_by, swap_by}
 use Rattle.rg_raise.specs.declared.said.CallSaid.{CallSaid}
 use Rattle.rg_raise.specs.declared.said.KindSaid.{KindSaid}
 use Rattle.rg_raise.specs.declared.said.After.TheVariants as after

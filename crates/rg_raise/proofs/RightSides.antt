@@ -11,16 +11,16 @@ use Rattle.rg_tree.specs.Rows.RowTrees.{right_of}
 use Rattle.rg_tree.specs.Rows.RowsExist.{IsNameIn, IsRightIn}
 use Rattle.rg_tree.specs.Adds.{Adds}
 use Rattle.rg_tree.proofs.Adding.{extends-same, means-later}
-use Rattle.rg_verify.specs.declared.refusal.Refusal.{Refusal}
-use Rattle.rg_verify.specs.declared.refusal.Refusal.TheVariants as refusal
-use Rattle.rg_verify.specs.declared.signs.Walk.{Walk}
-use Rattle.rg_verify.specs.declared.signs.Walk.TheVariants as walk
-use Rattle.rg_verify.specs.Naming.{class_name}
-use Rattle.rg_verify.specs.Raised.{Raised, named, Front, expression}
-use Rattle.rg_verify.specs.Rows.{IsTree}
-use Rattle.rg_verify.specs.Statements.{Call, Right, value, new, new_tmp, new_iso, result_of, all_used}
-use Rattle.rg_verify.specs.Signs.{behind_of, walk_of}
-use Rattle.rg_verify.specs.Blocks.{◌>>=◌, ◌>>◌, test, Given, sign, cleared, called, is_room, right_by, result_by, right_behind}
+use Rattle.rg_verify_expressions.specs.declared.refusal.Refusal.{Refusal}
+use Rattle.rg_verify_expressions.specs.declared.refusal.Refusal.TheVariants as refusal
+use Rattle.rg_verify_expressions.specs.declared.signs.Walk.{Walk}
+use Rattle.rg_verify_expressions.specs.declared.signs.Walk.TheVariants as walk
+use Rattle.rg_verify_expressions.specs.Naming.{class_name}
+use Rattle.rg_verify_expressions.specs.Raised.{Raised, named, Front, expression}
+use Rattle.rg_verify_expressions.specs.Rows.{IsTree}
+use Rattle.rg_verify_expressions.specs.Statements.{Call, Right, value, new, new_tmp, new_iso, result_of, all_used}
+use Rattle.rg_verify_expressions.specs.Signs.{behind_of, walk_of}
+use Rattle.rg_verify_expressions.specs.Blocks.{◌>>=◌, ◌>>◌, test, Given, sign, cleared, called, is_room, right_by, result_by, right_behind}
 use Rattle.rg_raise.specs.declared.said.CallSaid.{CallSaid}
 use Rattle.rg_raise.specs.declared.said.RightSaid.{RightSaid}
 use Rattle.rg_raise.specs.Telling.{MakesAs, MakesOne, IsCallSaid, AddsName, IsRightSaid, roomed, array_of}

@@ -13,13 +13,13 @@ use Rattle.rg_tree.specs.Rows.RowsExist.{Holds, IsWithin, IsNameIn, IsPathIn, Is
 use Rattle.rg_tree.specs.Keeps.{Keeps}
 use Rattle.rg_tree.proofs.Callers.{Keeps-same, Keeps-trans, Holds-keeps, IsAbove-Keeps}
 use Rattle.rg_tree.proofs.Grows.{numbers_in-grows}
-use Rattle.rg_verify.specs.Naming.{field_name, method_name}
-use Rattle.rg_verify.specs.Raised.{named, path_named}
+use Rattle.rg_verify_expressions.specs.Naming.{field_name, method_name}
+use Rattle.rg_verify_expressions.specs.Raised.{named, path_named}
 use Rattle.rg_tree.specs.Adds.{Extends, Means, Adds}
 use Rattle.rg_raise.specs.Fronts.{AreTrees}
-use Rattle.rg_verify.specs.Statements.{Call}
-use Rattle.rg_verify.specs.Found.{call_named}
-use Rattle.rg_verify.specs.Rows.{AreNames}
+use Rattle.rg_verify_expressions.specs.Statements.{Call}
+use Rattle.rg_verify_expressions.specs.Found.{call_named}
+use Rattle.rg_verify_expressions.specs.Rows.{AreNames}
 use Rattle.rg_raise.specs.Telling.{IsPathTo}
 use Rattle.rg_tree.proofs.Adding.{extends-by, extends-trans, means-later}
 

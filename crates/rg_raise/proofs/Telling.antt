@@ -9,14 +9,14 @@ use Rattle.rg_tree.specs.Rows.RowTrees.{call_of}
 use Rattle.rg_tree.specs.Rows.RowsExist.{IsCallIn}
 use Rattle.rg_tree.specs.Adds.{Extends, Adds}
 use Rattle.rg_tree.proofs.Adding.{extends-trans}
-use Rattle.rg_verify.specs.declared.refusal.Refusal.{Refusal}
-use Rattle.rg_verify.specs.declared.refusal.Refusal.TheVariants as refusal
-use Rattle.rg_verify.specs.declared.callee.Callee.{Callee}
-use Rattle.rg_verify.specs.Raised.{Raised, named}
-use Rattle.rg_verify.specs.Statements.{Call, all_used}
-use Rattle.rg_verify.specs.Found.{call_named}
-use Rattle.rg_verify.specs.Signs as signs
-use Rattle.rg_verify.specs.Blocks.{◌>>=◌, ◌>>◌, Given, Told, sign, cleared, called}
+use Rattle.rg_verify_expressions.specs.declared.refusal.Refusal.{Refusal}
+use Rattle.rg_verify_expressions.specs.declared.refusal.Refusal.TheVariants as refusal
+use Rattle.rg_verify_expressions.specs.declared.callee.Callee.{Callee}
+use Rattle.rg_verify_expressions.specs.Raised.{Raised, named}
+use Rattle.rg_verify_expressions.specs.Statements.{Call, all_used}
+use Rattle.rg_verify_expressions.specs.Found.{call_named}
+use Rattle.rg_verify_expressions.specs.Signs as signs
+use Rattle.rg_verify_expressions.specs.Blocks.{◌>>=◌, ◌>>◌, Given, Told, sign, cleared, called}
 use Rattle.rg_raise.specs.Fronts.{AreTrees}
 use Rattle.rg_raise.specs.Telling.{IsPathTo, MakesAs, MakesOne, IsCallSaid}
 

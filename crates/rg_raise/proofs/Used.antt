@@ -10,15 +10,15 @@ use Rattle.rg_tree.specs.declared.rows.BinOp.TheVariants as op
 use Rattle.rg_code.specs.declared.op.Op.{Op}
 use Rattle.rg_code.specs.declared.op.Op.TheVariants as i
 use Rattle.rg_code.specs.Lowering.{gap, operator_code}
-use Rattle.rg_verify.specs.declared.part.Part.{Part}
-use Rattle.rg_verify.specs.Parts.{part_of, Ends}
-use Rattle.rg_verify.specs.Raised.{Raised, number, boolean, nil, path, is_nil, size, element, neg, not, binary, path_ops, holder_ops, ops_of}
-use Rattle.rg_verify.specs.Raised.{Front, expression, object, place, place_ops, front_ops, fronts_ops}
-use Rattle.rg_verify.specs.Raising.{raised}
-use Rattle.rg_verify.specs.Statements.{type_at, used_by_path, used}
-use Rattle.rg_verify.specs.Blocks.{sign}
+use Rattle.rg_verify_expressions.specs.declared.part.Part.{Part}
+use Rattle.rg_verify_expressions.specs.Parts.{part_of, Ends}
+use Rattle.rg_verify_expressions.specs.Raised.{Raised, number, boolean, nil, path, is_nil, size, element, neg, not, binary, path_ops, holder_ops, ops_of}
+use Rattle.rg_verify_expressions.specs.Raised.{Front, expression, object, place, place_ops, front_ops, fronts_ops}
+use Rattle.rg_verify_expressions.specs.Raising.{raised}
+use Rattle.rg_verify_expressions.specs.Statements.{type_at, used_by_path, used}
+use Rattle.rg_verify_expressions.specs.Blocks.{sign}
 use Rattle.rg_raise.specs.Uses.{goes_by, value_by, ends_by, iso_slot, and_then, uses, ends_at, behind_place, used_in}
-use Rattle.rg_verify.proofs.Raises.{raised-stand}
+use Rattle.rg_verify_expressions.proofs.Raises.{raised-stand}
 
 -- what an instruction is that stands in front
 abbrev head_part : List Op → Option Part

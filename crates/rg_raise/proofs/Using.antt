@@ -5,8 +5,8 @@ use Rattle.std.proofs.lemmas.Bool.{eq-eqb}
 use Rattle.rg_base.specs.declared.ty.Ty.{Ty}
 use Rattle.rg_raise.specs.Uses.{and_then, use_at, uses, ends_at, behind_place}
 use Rattle.rg_code.specs.declared.op.Op.{Op}
-use Rattle.rg_verify.specs.Signs.{clear_of}
-use Rattle.rg_verify.specs.Blocks.{sign, cleared}
+use Rattle.rg_verify_expressions.specs.Signs.{clear_of}
+use Rattle.rg_verify_expressions.specs.Blocks.{sign, cleared}
 
 -- What is left to be cleared is cleared as all is.
 pub record Clearing (types : List Ty) (ops : List Op) (from clears end at to : ℕ) : Type 0 where

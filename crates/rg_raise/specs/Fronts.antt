@@ -8,14 +8,14 @@ use Rattle.rg_tree.specs.Rows.RowTrees.{expr_at}
 use Rattle.rg_tree.specs.Rows.RowsExist.{IsExprNumber}
 use Rattle.rg_tree.specs.Adds.{Extends, Means}
 use Rattle.rg_code.specs.declared.op.Op.{Op}
-use Rattle.rg_verify.specs.declared.refusal.Refusal.{Refusal}
-use Rattle.rg_verify.specs.declared.refusal.Refusal.TheVariants as refusal
-use Rattle.rg_verify.specs.declared.front.FrontRow.{FrontRow}
-use Rattle.rg_verify.specs.declared.front.FrontRow.TheVariants as front
-use Rattle.rg_verify.specs.Raised.{Raised, named, Front, expression, object, place}
-use Rattle.rg_verify.specs.Rows.{front_named, front_at, IsFrontIn, AreFronts}
-use Rattle.rg_verify.specs.Statements.{all_used}
-use Rattle.rg_verify.specs.Blocks.{fronts_at, values_in}
+use Rattle.rg_verify_expressions.specs.declared.refusal.Refusal.{Refusal}
+use Rattle.rg_verify_expressions.specs.declared.refusal.Refusal.TheVariants as refusal
+use Rattle.rg_verify_expressions.specs.declared.front.FrontRow.{FrontRow}
+use Rattle.rg_verify_expressions.specs.declared.front.FrontRow.TheVariants as front
+use Rattle.rg_verify_expressions.specs.Raised.{Raised, named, Front, expression, object, place}
+use Rattle.rg_verify_expressions.specs.Rows.{front_named, front_at, IsFrontIn, AreFronts}
+use Rattle.rg_verify_expressions.specs.Statements.{all_used}
+use Rattle.rg_verify_expressions.specs.Blocks.{fronts_at, values_in}
 use Rattle.rg_raise.specs.declared.said.Stretch.{Stretch}
 use Rattle.rg_raise.specs.declared.said.Fronts.{Fronts}
 use Rattle.rg_raise.specs.declared.said.Exprs.{Exprs}

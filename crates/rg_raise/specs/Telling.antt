@@ -8,18 +8,18 @@ use Rattle.rg_tree.specs.Rows.RowTrees.{call_of, right_of, kind_over, stmt_at}
 use Rattle.rg_tree.specs.Rows.RowsExist.{IsNameIn, IsCallIn, IsRightIn, IsKindIn}
 use Rattle.rg_tree.specs.Adds.{Extends, Means, Adds}
 use Rattle.rg_code.specs.declared.op.Op.{Op}
-use Rattle.rg_verify.specs.declared.refusal.Refusal.{Refusal}
-use Rattle.rg_verify.specs.declared.refusal.Refusal.TheVariants as refusal
-use Rattle.rg_verify.specs.declared.signs.Walk.{Walk}
-use Rattle.rg_verify.specs.declared.signs.Walk.TheVariants as walk
-use Rattle.rg_verify.specs.Raised.{Raised, path_named}
-use Rattle.rg_verify.specs.Rows.{IsPath}
-use Rattle.rg_verify.specs.Statements as statements
-use Rattle.rg_verify.specs.Statements.{Call, Right, Kind, declare, assign, write, write_element, call, swap, branch, while}
-use Rattle.rg_verify.specs.Statements.{enter, enter_field, print, collect, return}
-use Rattle.rg_verify.specs.Found.{call_named, right_named, kind_named}
-use Rattle.rg_verify.specs.Signs.{behind_of}
-use Rattle.rg_verify.specs.Blocks.{◌>>=◌, test, Given, Told, sign, is_room, paces}
+use Rattle.rg_verify_expressions.specs.declared.refusal.Refusal.{Refusal}
+use Rattle.rg_verify_expressions.specs.declared.refusal.Refusal.TheVariants as refusal
+use Rattle.rg_verify_expressions.specs.declared.signs.Walk.{Walk}
+use Rattle.rg_verify_expressions.specs.declared.signs.Walk.TheVariants as walk
+use Rattle.rg_verify_expressions.specs.Raised.{Raised, path_named}
+use Rattle.rg_verify_expressions.specs.Rows.{IsPath}
+use Rattle.rg_verify_expressions.specs.Statements as statements
+use Rattle.rg_verify_expressions.specs.Statements.{Call, Right, Kind, declare, assign, write, write_element, call, swap, branch, while}
+use Rattle.rg_verify_expressions.specs.Statements.{enter, enter_field, print, collect, return}
+use Rattle.rg_verify_expressions.specs.Found.{call_named, right_named, kind_named}
+use Rattle.rg_verify_expressions.specs.Signs.{behind_of}
+use Rattle.rg_verify_expressions.specs.Blocks.{◌>>=◌, test, Given, Told, sign, is_room, paces}
 use Rattle.rg_raise.specs.declared.source.Source.{Source}
 use Rattle.rg_raise.specs.declared.said.CallSaid.{CallSaid}
 use Rattle.rg_raise.specs.declared.said.RightSaid.{RightSaid}

@@ -3,12 +3,12 @@ use Rattle.std.specs.Prelude.{ℕ, zero, suc, ◌+◌, Bool as Truth, true, fals
 use Rattle.rg_base.specs.declared.ty.Ty.{Ty}
 use Rattle.rg_rules.specs.Capabilities.{is_iso}
 use Rattle.rg_code.specs.declared.op.Op.{Op}
-use Rattle.rg_verify.specs.declared.part.Part.{Part}
-use Rattle.rg_verify.specs.declared.part.Part.TheVariants as part
-use Rattle.rg_verify.specs.Parts.{part_of}
-use Rattle.rg_verify.specs.Raised.{Front, expression, object, place}
-use Rattle.rg_verify.specs.Statements.{type_at, used}
-use Rattle.rg_verify.specs.Blocks.{sign}
+use Rattle.rg_verify_expressions.specs.declared.part.Part.{Part}
+use Rattle.rg_verify_expressions.specs.declared.part.Part.TheVariants as part
+use Rattle.rg_verify_expressions.specs.Parts.{part_of}
+use Rattle.rg_verify_expressions.specs.Raised.{Front, expression, object, place}
+use Rattle.rg_verify_expressions.specs.Statements.{type_at, used}
+use Rattle.rg_verify_expressions.specs.Blocks.{sign}
 
 -- whether what stands in front goes on with an instruction: a path, an object or a place
 abbrev pub goes_by : Option Part → Truth

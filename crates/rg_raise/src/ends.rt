@@ -1,7 +1,7 @@
 //! Where statements end (docs/architecture.md, "Modules").
 
 ghost use Rattle.std.specs.Prelude.{◌≡◌};
-ghost use Rattle.rg_verify.specs.Blocks.{paced, dropped};
+ghost use Rattle.rg_verify_expressions.specs.Blocks.{paced, dropped};
 
 use crate::signs::{left_at, pace_at};
 use crate::uses::is_iso;

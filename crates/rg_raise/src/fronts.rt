@@ -4,7 +4,7 @@ ghost use Rattle.std.specs.Prelude.{◌≡◌, Bool as Truth, List};
 ghost use Rattle.rg_tree.specs.Rows.Tables.{Tables};
 ghost use Rattle.rg_tree.specs.Adds.{Extends};
 ghost use Rattle.rg_code.specs.declared.op.Op.{Op};
-ghost use Rattle.rg_verify.specs.Raised.{Front as OneFront};
+ghost use Rattle.rg_verify_expressions.specs.Raised.{Front as OneFront};
 ghost use Rattle.rg_raise.specs.Fronts.{AreFrontRows, AreFrontsAt, AreLeft, MakesFronts};
 ghost use Rattle.rg_raise.specs.Fronts.{TakesFront};
 ghost use Rattle.rg_raise.specs.Fronts.{TakesFirst, FindsAlone, FindsExprs};
@@ -14,7 +14,7 @@ use crate::said::{Exprs, Fronts, Stretch};
 use crate::uses::behind_place;
 use rg_code::CodeList;
 use rg_tree::Program;
-use rg_verify::{Body, FrontRow, Refusal, raise_expressions};
+use rg_verify_expressions::{Body, FrontRow, Refusal, raise_expressions};
 
 /// The fronts whose code stands at an address.
 pub fn raise_fronts(

@@ -3,13 +3,13 @@
 ghost use Rattle.std.specs.Prelude.{◌≡◌, ◌+◌, ◌<◌, ◌^◌, ℕ, List, length, Some, true};
 ghost use Rattle.rg_base.specs.declared.ty.Ty.{Ty as Types};
 ghost use Rattle.rg_tree.specs.Adds.{Extends};
-ghost use Rattle.rg_verify.specs.Raised.{Raised, named, Front as OneFront};
-ghost use Rattle.rg_verify.specs.Rows.{IsTree};
-ghost use Rattle.rg_verify.specs.Signs.{target_of, behind_of};
-ghost use Rattle.rg_verify.specs.Statements as statements;
-ghost use Rattle.rg_verify.specs.Statements.{assign};
-ghost use Rattle.rg_verify.specs.Blocks as blocks;
-ghost use Rattle.rg_verify.specs.Blocks.{sign, stored, values_in};
+ghost use Rattle.rg_verify_expressions.specs.Raised.{Raised, named, Front as OneFront};
+ghost use Rattle.rg_verify_expressions.specs.Rows.{IsTree};
+ghost use Rattle.rg_verify_expressions.specs.Signs.{target_of, behind_of};
+ghost use Rattle.rg_verify_expressions.specs.Statements as statements;
+ghost use Rattle.rg_verify_expressions.specs.Statements.{assign};
+ghost use Rattle.rg_verify_expressions.specs.Blocks as blocks;
+ghost use Rattle.rg_verify_expressions.specs.Blocks.{sign, stored, values_in};
 ghost use Rattle.rg_raise.specs.Fronts.{AreFrontRows, AreLeft};
 ghost use Rattle.rg_raise.specs.Telling.{given, IsPathTo, MakesAs, MakesOne};
 ghost use Rattle.rg_raise.specs.Telling.{IsCallSaid, IsRightSaid, IsKindSaid};
@@ -25,7 +25,7 @@ use crate::types::{slot_type, type_at};
 use crate::uses::is_iso;
 use rg_base::Ty;
 use rg_tree::{Path, Program, Right, StmtKind};
-use rg_verify::{Behind, Body, Refusal, Target, add_name, path_row};
+use rg_verify_expressions::{Behind, Body, Refusal, Target, add_name, path_row};
 
 // A value goes into the next slot, whose type the map behind has.
 fn declared(

@@ -1,5 +1,5 @@
 //! Statements without blocks, raised from their code into rows (docs/architecture.md, "Modules"):
-//! what `rg_verify/specs/Blocks` tells of a statement at an address, added to a program. One clause
+//! what `rg_verify_expressions/specs/Blocks` tells of a statement at an address, added to a program. One clause
 //! serves all calls (`MakesAs` in `specs/Telling`): what is told is there as a row, with the
 //! address behind it; or nothing is told, or no memory was found. `raise_fronts` raises what a statement
 //! begins with, and `take_first` takes the first part of it (`specs/Fronts`); behind an object goes

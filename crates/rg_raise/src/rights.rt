@@ -3,12 +3,12 @@
 ghost use Rattle.std.specs.Prelude.{◌≡◌, ◌+◌, ◌<◌, ◌^◌, ℕ, List, [], ◌∷◌, slice_get, IfSome, None};
 ghost use Rattle.rg_base.specs.declared.ty.Ty.{Ty as Types};
 ghost use Rattle.rg_tree.specs.Adds.{Extends};
-ghost use Rattle.rg_verify.specs.Naming.{class_name};
-ghost use Rattle.rg_verify.specs.Raised.{Raised, named, Front as OneFront, expression};
-ghost use Rattle.rg_verify.specs.Rows.{IsTree};
-ghost use Rattle.rg_verify.specs.Signs.{walk_of};
-ghost use Rattle.rg_verify.specs.Blocks.{sign, paces, values_in};
-ghost use Rattle.rg_verify.specs.Blocks as blocks;
+ghost use Rattle.rg_verify_expressions.specs.Naming.{class_name};
+ghost use Rattle.rg_verify_expressions.specs.Raised.{Raised, named, Front as OneFront, expression};
+ghost use Rattle.rg_verify_expressions.specs.Rows.{IsTree};
+ghost use Rattle.rg_verify_expressions.specs.Signs.{walk_of};
+ghost use Rattle.rg_verify_expressions.specs.Blocks.{sign, paces, values_in};
+ghost use Rattle.rg_verify_expressions.specs.Blocks as blocks;
 ghost use Rattle.rg_raise.specs.Fronts.{Spans, AreLeft, AreExprs};
 ghost use Rattle.rg_raise.specs.Telling.{given, roomed, IsPathTo, array_of};
 ghost use Rattle.rg_raise.specs.Telling.{MakesAs, MakesOne, AddsName, IsCallSaid, IsRightSaid};
@@ -22,7 +22,7 @@ use crate::uses::behind_uses;
 use rg_base::Ty;
 use rg_code::CodeList;
 use rg_tree::{Path, Program, Right};
-use rg_verify::{Behind, Body, Callee, FrontRow, Making, Refusal, Walk, add_name};
+use rg_verify_expressions::{Behind, Body, Callee, FrontRow, Making, Refusal, Walk, add_name};
 
 // The method of a number.
 fn callee_of(methods: &[Callee], number: u32) -> Option<Callee>

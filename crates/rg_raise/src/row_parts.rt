@@ -5,17 +5,17 @@ ghost use Rattle.rg_tree.specs.Rows.Tables.{numbers_in};
 ghost use Rattle.rg_tree.specs.Rows.RowTrees.{type_of, path_of, right_of, call_of};
 ghost use Rattle.rg_tree.specs.Rows.RowsExist.{IsWithin, IsTypeIn, IsPathIn, IsRightIn, IsCallIn};
 ghost use Rattle.rg_tree.specs.Adds.{Extends, Adds};
-ghost use Rattle.rg_verify.specs.Naming.{written};
-ghost use Rattle.rg_verify.specs.Raised.{named, path_named};
-ghost use Rattle.rg_verify.specs.Statements as statements;
-ghost use Rattle.rg_verify.specs.Found.{right_named, call_named};
-ghost use Rattle.rg_verify.specs.Blocks as blocks;
+ghost use Rattle.rg_verify_expressions.specs.Naming.{written};
+ghost use Rattle.rg_verify_expressions.specs.Raised.{named, path_named};
+ghost use Rattle.rg_verify_expressions.specs.Statements as statements;
+ghost use Rattle.rg_verify_expressions.specs.Found.{right_named, call_named};
+ghost use Rattle.rg_verify_expressions.specs.Blocks as blocks;
 ghost use Rattle.rg_raise.specs.Fronts.{AreTrees};
 ghost use Rattle.rg_raise.specs.Telling.{IsPathTo};
 
 use rg_base::{Memory, Ty};
 use rg_tree::{CallRow, Path, Program, Right, TypeRow};
-use rg_verify::{Body, Making, add_name};
+use rg_verify_expressions::{Body, Making, add_name};
 
 /// Adds what a type needs.
 pub(crate) fn type_row(body: Body, program: &mut Program, ty: Ty) -> Result<TypeRow, Memory>

@@ -2,7 +2,7 @@
 
 use rg_base::Ty;
 use rg_tree::{CallRow, Right, StmtKind};
-use rg_verify::FrontRow;
+use rg_verify_expressions::FrontRow;
 
 /// A stretch of code: its first address, and the address behind it.
 #[derive(Clone, Copy)]

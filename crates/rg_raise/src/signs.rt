@@ -2,13 +2,13 @@
 //! (docs/architecture.md, "Modules").
 
 ghost use Rattle.std.specs.Prelude.{◌≡◌, ◌+◌, ◌<◌, ◌^◌, slice_get, IfSome};
-ghost use Rattle.rg_verify.specs.Signs.{making_of, target_of, walk_of, behind_of, mark_of};
-ghost use Rattle.rg_verify.specs.Signs.{clear_of, call_of, put_of, put_element_of, left_of};
-ghost use Rattle.rg_verify.specs.Signs.{pace_of};
-ghost use Rattle.rg_verify.specs.Blocks.{sign};
+ghost use Rattle.rg_verify_expressions.specs.Signs.{making_of, target_of, walk_of, behind_of, mark_of};
+ghost use Rattle.rg_verify_expressions.specs.Signs.{clear_of, call_of, put_of, put_element_of, left_of};
+ghost use Rattle.rg_verify_expressions.specs.Signs.{pace_of};
+ghost use Rattle.rg_verify_expressions.specs.Blocks.{sign};
 
 use rg_code::{CodeList, Op};
-use rg_verify::{Behind, Making, Target, Walk};
+use rg_verify_expressions::{Behind, Making, Target, Walk};
 
 /// The instruction at an address, where there is one.
 pub fn op_at(code: &CodeList, at: usize) -> Option<Op>

@@ -1,8 +1,8 @@
 //! Types of variables (docs/architecture.md, "Modules").
 
 ghost use Rattle.std.specs.Prelude.{◌≡◌};
-ghost use Rattle.rg_verify.specs.Statements as statements;
-ghost use Rattle.rg_verify.specs.Blocks as blocks;
+ghost use Rattle.rg_verify_expressions.specs.Statements as statements;
+ghost use Rattle.rg_verify_expressions.specs.Blocks as blocks;
 
 use crate::signs::mark_at;
 use rg_base::Ty;

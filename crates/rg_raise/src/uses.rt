@@ -2,8 +2,8 @@
 
 ghost use Rattle.std.specs.Prelude.{◌≡◌, ◌-◌};
 ghost use Rattle.rg_rules.specs.Capabilities as capabilities;
-ghost use Rattle.rg_verify.specs.Parts as parts;
-ghost use Rattle.rg_verify.specs.Blocks.{sign, cleared};
+ghost use Rattle.rg_verify_expressions.specs.Parts as parts;
+ghost use Rattle.rg_verify_expressions.specs.Blocks.{sign, cleared};
 ghost use Rattle.rg_raise.specs.Uses as along;
 ghost use Rattle.rg_raise.specs.Uses.{goes_by, value_by, ends_by, uses};
 
@@ -12,7 +12,7 @@ use crate::signs::clear_at;
 use crate::types::type_at;
 use rg_base::{Cap, Ty};
 use rg_code::CodeList;
-use rg_verify::{Part, part_of};
+use rg_verify_expressions::{Part, part_of};
 
 /// Whether a type is `iso`.
 pub(crate) fn is_iso(ty: Ty) -> bool

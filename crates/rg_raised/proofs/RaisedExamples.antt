@@ -5,8 +5,8 @@ use Rattle.rg_base.specs.declared.words.Cap.TheVariants as cap
 use Rattle.rg_base.specs.declared.words.Manager.TheVariants as manager
 use Rattle.rg_tree.specs.Tree.{Path, Expr, int, bool, ref, number, boolean, path, value, new, result_of, stmt, StmtKind, declare, call, branch}
 use Rattle.rg_tree.specs.Tree.{while, print, return, otherwise, Block, empty, then as next, field, method, Tree}
-use Rattle.rg_verify.specs.Raising.{walk, raised}
-use Rattle.rg_verify.specs.Blocks.{block_told}
+use Rattle.rg_verify_expressions.specs.Raising.{walk, raised}
+use Rattle.rg_verify_expressions.specs.Blocks.{block_told}
 use Rattle.rg_build.specs.ModuleOf.{module_of}
 use Rattle.rg_raised.specs.Told.{program_told}
 

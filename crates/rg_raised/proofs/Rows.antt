@@ -13,11 +13,11 @@ use Rattle.rg_tree.proofs.Callers.{Keeps-same}
 use Rattle.rg_spell.specs.declared.rows.Head.{Head}
 use Rattle.rg_spell.specs.declared.rows.Shape.{Shape}
 use Rattle.rg_module.specs.Parts.{Parts}
-use Rattle.rg_verify.specs.declared.refusal.Refusal.{Refusal}
-use Rattle.rg_verify.specs.declared.refusal.Refusal.TheVariants as refusal
-use Rattle.rg_verify.specs.declared.callee.Callee.{Callee}
-use Rattle.rg_verify.specs.Blocks.{◌>>=◌, ◌>>◌, test, Given}
-use Rattle.rg_verify.specs.Found.{block_named}
+use Rattle.rg_verify_expressions.specs.declared.refusal.Refusal.{Refusal}
+use Rattle.rg_verify_expressions.specs.declared.refusal.Refusal.TheVariants as refusal
+use Rattle.rg_verify_expressions.specs.declared.callee.Callee.{Callee}
+use Rattle.rg_verify_expressions.specs.Blocks.{◌>>=◌, ◌>>◌, test, Given}
+use Rattle.rg_verify_expressions.specs.Found.{block_named}
 use Rattle.rg_raise.specs.Telling.{MakesOne}
 use Rattle.rg_classes.specs.Written.{Bodied, classes_written}
 use Rattle.rg_classes.specs.Order.{are_tables, callees_of, FindsCallees}

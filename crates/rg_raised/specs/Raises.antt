@@ -6,7 +6,7 @@ use Rattle.rg_rules.specs.Acceptance.{Accepted}
 use Rattle.rg_limits.specs.Limits.{IsWithinLimits}
 use Rattle.rg_module.specs.Parts.{Parts}
 use Rattle.rg_build.specs.ModuleOf.{module_of}
-use Rattle.rg_verify.specs.Naming.{class_name, field_name, method_name, variable_name}
+use Rattle.rg_verify_expressions.specs.Naming.{class_name, field_name, method_name, variable_name}
 
 -- Names. The variable of slot k is `vk`; slot 0 of a method has `self`.
 

@@ -6,10 +6,10 @@ use Rattle.rg_tree.specs.Tree.{Tree}
 use Rattle.rg_tree.specs.Rows.Tables.{Tables}
 use Rattle.rg_tree.specs.Rows.RowTrees.{program_of}
 use Rattle.rg_module.specs.Parts.{Parts}
-use Rattle.rg_verify.specs.declared.refusal.Refusal.{Refusal}
-use Rattle.rg_verify.specs.declared.refusal.Refusal.TheVariants as refusal
-use Rattle.rg_verify.specs.Blocks.{◌>>◌, test}
-use Rattle.rg_verify.specs.Found.{block_named}
+use Rattle.rg_verify_expressions.specs.declared.refusal.Refusal.{Refusal}
+use Rattle.rg_verify_expressions.specs.declared.refusal.Refusal.TheVariants as refusal
+use Rattle.rg_verify_expressions.specs.Blocks.{◌>>◌, test}
+use Rattle.rg_verify_expressions.specs.Found.{block_named}
 use Rattle.rg_classes.specs.Order.{are_tables, callees_of}
 use Rattle.rg_classes.specs.Written.{classes_written}
 use Rattle.rg_bodies.specs.Bodies.{Bodies, bodies_told}

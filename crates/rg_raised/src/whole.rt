@@ -7,7 +7,7 @@ use rg_bodies::raise_bodies;
 use rg_classes::{Methods, add_classes, find_callees};
 use rg_module::Module;
 use rg_tree::Program;
-use rg_verify::Refusal;
+use rg_verify_expressions::Refusal;
 use std::alloc::Global;
 
 /// The program that a module tells, or that it tells none.

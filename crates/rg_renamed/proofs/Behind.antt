@@ -14,11 +14,11 @@ use Rattle.rg_rules.specs.Types.{type_of}
 use Rattle.rg_rules.specs.Environment.{Env, Entry, same_variable, closed}
 use Rattle.rg_sound.proofs.Frames.Entry.{Absent, Distinct, same_variable-same}
 use Rattle.rg_code.specs.Lowering.{Slot, Scope, with_slot, slot_of, type_in, type_along, class_of, scope_behind, scope_inside, scope_at_end}
-use Rattle.rg_verify.specs.Naming.{variable_name, variable_in, written}
-use Rattle.rg_verify.specs.Raised.{path_named}
-use Rattle.rg_verify.specs.Statements as numbers
-use Rattle.rg_verify.specs.Found as found
-use Rattle.rg_verify.specs.Found.{right_named, kind_named, else_named, block_named}
+use Rattle.rg_verify_expressions.specs.Naming.{variable_name, variable_in, written}
+use Rattle.rg_verify_expressions.specs.Raised.{path_named}
+use Rattle.rg_verify_expressions.specs.Statements as numbers
+use Rattle.rg_verify_expressions.specs.Found as found
+use Rattle.rg_verify_expressions.specs.Found.{right_named, kind_named, else_named, block_named}
 use Rattle.rg_numbered.specs.Numbered.{numbered_right, numbered_assign, numbered_swap, numbered_enter, numbered_kind, numbered_else, numbered_block}
 use Rattle.rg_renamed.specs.Renamed.{renamed_classes}
 use Rattle.rg_renamed.proofs.Names.{from-long}

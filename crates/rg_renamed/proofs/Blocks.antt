@@ -30,12 +30,12 @@ use Rattle.rg_sound.proofs.Frames.Judge.{judge_declare-parts, judge_assign-parts
 use Rattle.rg_sound.proofs.Frames.Judge.{judge_test-stays, judge_enter-variable, judge_enter-field}
 use Rattle.rg_code.specs.Lowering.{Scope, slot_of, type_in, type_along, type_behind, class_of, field_number, held_number, scope_behind, scope_inside}
 use Rattle.rg_code.specs.Lowering.{scope_at_end}
-use Rattle.rg_verify.specs.Naming.{variable_name, variable_in, field_name, written}
-use Rattle.rg_verify.specs.Raised.{path_named, named, IsFound}
-use Rattle.rg_verify.specs.Statements as numbers
-use Rattle.rg_verify.specs.Found as found
-use Rattle.rg_verify.specs.Found.{call_named, right_named, kind_named, else_named, block_named, IsEntryFound, IsGivingFound, IsKindFound}
-use Rattle.rg_verify.specs.Found.{IsElseFound, IsBlockFound}
+use Rattle.rg_verify_expressions.specs.Naming.{variable_name, variable_in, field_name, written}
+use Rattle.rg_verify_expressions.specs.Raised.{path_named, named, IsFound}
+use Rattle.rg_verify_expressions.specs.Statements as numbers
+use Rattle.rg_verify_expressions.specs.Found as found
+use Rattle.rg_verify_expressions.specs.Found.{call_named, right_named, kind_named, else_named, block_named, IsEntryFound, IsGivingFound, IsKindFound}
+use Rattle.rg_verify_expressions.specs.Found.{IsElseFound, IsBlockFound}
 use Rattle.rg_numbered.specs.Numbered.{field_numbers, path_numbers, numbered, numbered_call, numbered_right, numbered_assign, numbered_swap}
 use Rattle.rg_numbered.specs.Numbered.{bridge_class}
 use Rattle.rg_numbered.specs.Numbered.{numbered_enter, giving_slot, numbered_kind, numbered_else, numbered_block}

@@ -12,7 +12,7 @@ use Rattle.rg_rules.specs.Answers.{◌>>=◌, ◌>>◌, test, Answer}
 use Rattle.rg_rules.specs.Types.{class_number, class_named, type_of, suits_class, good_type, is_array, names_array, element_type, field_member}
 use Rattle.rg_rules.specs.Types.{method_member, members_of, fields_of, methods_of, field_place, field_type, method_named, param_types, method_result}
 use Rattle.rg_code.specs.Lowering.{field_number, method_place, methods_among, method_number, number_called}
-use Rattle.rg_verify.specs.Naming.{field_name, class_name, method_name}
+use Rattle.rg_verify_expressions.specs.Naming.{field_name, class_name, method_name}
 use Rattle.rg_numbered.proofs.Classes.{some-is, none-some, none-behind}
 use Rattle.rg_renamed.specs.Renamed.{renamed_type, renamed_params, renamed_method, renamed_field, renamed_from, renamed_members, renamed_class}
 use Rattle.rg_renamed.specs.Renamed.{renamed_classes}

@@ -24,10 +24,10 @@ use Rattle.rg_rules.proofs.Path.{follow-ok}
 use Rattle.rg_rules.proofs.Expression.{binary-ok, element-ok}
 use Rattle.rg_sound.proofs.Frames.JudgeRight.{judge_expr-stays}
 use Rattle.rg_code.specs.Lowering.{Scope, slot_of, method_place, number_called, target_class, call_result, type_in, type_along, class_of}
-use Rattle.rg_verify.specs.Naming.{variable_name, variable_in, class_name, method_name}
-use Rattle.rg_verify.specs.Raised as raised
-use Rattle.rg_verify.specs.Raised.{named, IsFound}
-use Rattle.rg_verify.specs.Found.{call_named, right_named, IsSlotFound, IsCallFound, IsCountFound, IsRightFound}
+use Rattle.rg_verify_expressions.specs.Naming.{variable_name, variable_in, class_name, method_name}
+use Rattle.rg_verify_expressions.specs.Raised as raised
+use Rattle.rg_verify_expressions.specs.Raised.{named, IsFound}
+use Rattle.rg_verify_expressions.specs.Found.{call_named, right_named, IsSlotFound, IsCallFound, IsCountFound, IsRightFound}
 use Rattle.rg_numbered.specs.Numbered.{path_numbers, numbered, numbered_call, numbered_right}
 use Rattle.rg_numbered.proofs.Scopes.{class_of-is}
 use Rattle.rg_renamed.specs.Renamed.{renamed_classes, renamed_method, renamed_params, renamed_type}

@@ -15,7 +15,7 @@ use Rattle.rg_base.specs.declared.fault.Code.TheVariants.{Return}
 use Rattle.rg_base.specs.declared.limits.TheConstants.{BODY_NAMES}
 use Rattle.rg_rules.proofs.Answers.{then-ok, test-ok, test-then, at_line-ok}
 use Rattle.rg_rules.proofs.Header.{member_headers-parts, no_members-none, rest_header-members}
-use Rattle.rg_verify.specs.Naming.{variable_name, field_name, class_name, method_name}
+use Rattle.rg_verify_expressions.specs.Naming.{variable_name, field_name, class_name, method_name}
 use Rattle.rg_renamed.specs.Renamed.{renamed_classes, renamed_type, renamed_params, renamed_method, renamed_field, renamed_from, renamed_members}
 use Rattle.rg_renamed.specs.Renamed.{renamed_class}
 use Rattle.rg_renamed.proofs.Names.{AreApart, variables-apart, fields-apart, classes-apart, methods-apart, other-bytes}

@@ -17,10 +17,10 @@ use Rattle.rg_rules.specs.Bodies.{method_env, method_body, judge_body, is_return
 use Rattle.rg_code.specs.declared.op.Op.{Op}
 use Rattle.rg_code.specs.Lowering.{Scope, slot_of, method_scope, block_code, method_end_code, method_code, scope_behind}
 use Rattle.rg_build.specs.Maps.{types_in, block_maps, is_end_marked, method_maps}
-use Rattle.rg_verify.specs.Statements as numbers
-use Rattle.rg_verify.specs.Statements.{block_ops}
-use Rattle.rg_verify.specs.Found as found
-use Rattle.rg_verify.specs.Found.{kind_named, block_named, types_of, BlocksHaveTheirCode}
+use Rattle.rg_verify_expressions.specs.Statements as numbers
+use Rattle.rg_verify_expressions.specs.Statements.{block_ops}
+use Rattle.rg_verify_expressions.specs.Found as found
+use Rattle.rg_verify_expressions.specs.Found.{kind_named, block_named, types_of, BlocksHaveTheirCode}
 use Rattle.rg_numbered.specs.Numbered.{numbered_right, numbered_assign, numbered_swap, numbered_enter, numbered_kind, numbered_block}
 use Rattle.rg_renamed.specs.Renamed.{renamed_classes, renamed_type, renamed_block, renamed_params, renamed_method, renamed_from}
 use Rattle.rg_renamed.proofs.Numbered.{method-slots}

@@ -9,7 +9,7 @@ use Rattle.rg_rules.specs.Types.{class_number, field_place}
 use Rattle.rg_rules.specs.Environment.{same_variable}
 use Rattle.rg_sound.proofs.Frames.Entry.{same_variable-true, same_variable-same}
 use Rattle.rg_code.specs.Lowering.{method_place}
-use Rattle.rg_verify.specs.Naming.{variable_name, field_name, class_name, method_name, variable_in}
+use Rattle.rg_verify_expressions.specs.Naming.{variable_name, field_name, class_name, method_name, variable_in}
 use Rattle.rg_numbered.specs.ModuleNames.{AreNamed}
 use Rattle.rg_numbered.proofs.Classes.{some-is, none-some}
 use Rattle.rg_renamed.specs.Renamed.{renamed_from}

@@ -13,9 +13,9 @@ use Rattle.rg_rules.proofs.Header.{no_members-none}
 use Rattle.rg_rules.proofs.Acceptance.{Accepted-parts}
 use Rattle.rg_tree.specs.Tree.{Ty as Written, Param, Field, Method, Member, field, method, Class, Tree}
 use Rattle.rg_code.specs.Lowering.{Scope, with_slot, with_params, method_scope}
-use Rattle.rg_verify.specs.Statements.{Kind, declare, assign, write, write_element, call, swap, branch, while, enter, enter_field, print, collect}
-use Rattle.rg_verify.specs.Statements.{return, Else, no_else, otherwise, Block, empty, next}
-use Rattle.rg_verify.specs.Found.{slots_behind, kind_named, else_named, block_named}
+use Rattle.rg_verify_expressions.specs.Statements.{Kind, declare, assign, write, write_element, call, swap, branch, while, enter, enter_field, print, collect}
+use Rattle.rg_verify_expressions.specs.Statements.{return, Else, no_else, otherwise, Block, empty, next}
+use Rattle.rg_verify_expressions.specs.Found.{slots_behind, kind_named, else_named, block_named}
 use Rattle.rg_raised.specs.Raises.{slots_after, IsKindNumbered, IsElseNumbered, IsBlockNumbered, AreParamsNumbered, AreMethodsNumbered}
 use Rattle.rg_raised.specs.Raises.{IsMethodNumbered, AreMembersNumbered, AreMembers, AreClassesNumbered, IsNumbered}
 use Rattle.rg_numbered.specs.Numbered.{numbered_block}

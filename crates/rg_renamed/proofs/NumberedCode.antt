@@ -20,11 +20,11 @@ use Rattle.rg_code.specs.Lowering.{exprs_code, used_path, used_slots, used_by_al
 use Rattle.rg_code.specs.Lowering.{call_result, new_code, right_code, pace_code, assign_op as assigned, dropped_code, scope_behind, scope_inside}
 use Rattle.rg_code.specs.Lowering.{assign_code, assign_element_code, swap_code, enter_code, scope_at_end, leave_op as leaves, kind_code, else_code}
 use Rattle.rg_code.specs.Lowering.{block_code, field_number, else_gap as gap_behind, held_number, class_of, type_along}
-use Rattle.rg_verify.specs.Raised.{path_ops, holder_ops, place_ops, ops_of, all_ops}
-use Rattle.rg_verify.specs.Statements as numbers
-use Rattle.rg_verify.specs.Statements.{type_at, used_by_path, used, all_used, types_behind, types_inside, whole_ops, call_ops, new_ops, right_ops}
-use Rattle.rg_verify.specs.Statements.{pace_ops, assign_op, leave_op, else_gap, kind_ops, else_ops, block_ops}
-use Rattle.rg_verify.specs.Found.{types_of}
+use Rattle.rg_verify_expressions.specs.Raised.{path_ops, holder_ops, place_ops, ops_of, all_ops}
+use Rattle.rg_verify_expressions.specs.Statements as numbers
+use Rattle.rg_verify_expressions.specs.Statements.{type_at, used_by_path, used, all_used, types_behind, types_inside, whole_ops, call_ops, new_ops, right_ops}
+use Rattle.rg_verify_expressions.specs.Statements.{pace_ops, assign_op, leave_op, else_gap, kind_ops, else_ops, block_ops}
+use Rattle.rg_verify_expressions.specs.Found.{types_of}
 use Rattle.rg_numbered.specs.Numbered.{field_numbers, path_numbers, numbered, numbered_call, numbered_right, numbered_assign, numbered_swap}
 use Rattle.rg_numbered.specs.Numbered.{bridge_class}
 use Rattle.rg_numbered.specs.Numbered.{numbered_enter, giving_slot, numbered_kind, numbered_else, numbered_block}

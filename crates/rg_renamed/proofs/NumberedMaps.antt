@@ -11,12 +11,12 @@ use Rattle.rg_tree.specs.Tree.{return, Else, no_else, otherwise, Block, empty, t
 use Rattle.rg_rules.specs.Types.{type_of}
 use Rattle.rg_code.specs.Lowering.{Scope, Slot, with_slot, slot_of, scope_behind, scope_inside, scope_at_end, class_of, type_in, type_along}
 use Rattle.rg_build.specs.Maps.{types_in, end_maps, inner_maps, else_maps, block_maps}
-use Rattle.rg_verify.specs.Naming.{variable_name, written}
-use Rattle.rg_verify.specs.Raised.{path_named}
-use Rattle.rg_verify.specs.Statements as numbers
-use Rattle.rg_verify.specs.Statements.{types_behind, types_inside}
-use Rattle.rg_verify.specs.Found as found
-use Rattle.rg_verify.specs.Found.{kind_named, else_named, block_named, IsEntryFound, IsKindFound, IsElseFound, IsBlockFound}
+use Rattle.rg_verify_expressions.specs.Naming.{variable_name, written}
+use Rattle.rg_verify_expressions.specs.Raised.{path_named}
+use Rattle.rg_verify_expressions.specs.Statements as numbers
+use Rattle.rg_verify_expressions.specs.Statements.{types_behind, types_inside}
+use Rattle.rg_verify_expressions.specs.Found as found
+use Rattle.rg_verify_expressions.specs.Found.{kind_named, else_named, block_named, IsEntryFound, IsKindFound, IsElseFound, IsBlockFound}
 use Rattle.rg_numbered.specs.Numbered.{numbered_right, numbered_assign, numbered_swap, numbered_enter, bridge_class, giving_slot, numbered_kind}
 use Rattle.rg_numbered.specs.Numbered.{numbered_else, numbered_block}
 use Rattle.rg_renamed.proofs.NumberedCode.{behind-types}

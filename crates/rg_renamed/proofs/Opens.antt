@@ -16,10 +16,10 @@ use Rattle.rg_limits.specs.Opens.{members_opens}
 use Rattle.rg_limits.specs.Opens.{class_opens, classes_opens, tree_opens}
 use Rattle.rg_limits.specs.Limits.{IsWithinLimits}
 use Rattle.rg_code.specs.Lowering.{Scope, slot_of, method_scope, scope_behind, scope_inside, scope_at_end}
-use Rattle.rg_verify.specs.Raised.{named}
-use Rattle.rg_verify.specs.Statements as numbers
-use Rattle.rg_verify.specs.Found as found
-use Rattle.rg_verify.specs.Found.{right_named, kind_named, else_named, block_named}
+use Rattle.rg_verify_expressions.specs.Raised.{named}
+use Rattle.rg_verify_expressions.specs.Statements as numbers
+use Rattle.rg_verify_expressions.specs.Found as found
+use Rattle.rg_verify_expressions.specs.Found.{right_named, kind_named, else_named, block_named}
 use Rattle.rg_numbered.specs.Numbered.{numbered, numbered_right, numbered_assign, numbered_swap, numbered_enter, giving_slot, numbered_kind}
 use Rattle.rg_numbered.specs.Numbered.{numbered_else}
 use Rattle.rg_numbered.specs.Numbered.{numbered_block}

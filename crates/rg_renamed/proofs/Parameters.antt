@@ -16,7 +16,7 @@ use Rattle.rg_rules.specs.Bodies.{method_env, with_params as env_params}
 use Rattle.rg_rules.proofs.Answers.{then-ok, test-then}
 use Rattle.rg_sound.proofs.Frames.Entry.{Absent, Distinct, Distinct-snoc}
 use Rattle.rg_code.specs.Lowering.{Slot, Scope, with_slot, with_params, method_scope}
-use Rattle.rg_verify.specs.Naming.{variable_name}
+use Rattle.rg_verify_expressions.specs.Naming.{variable_name}
 use Rattle.rg_renamed.specs.Renamed.{renamed_classes, renamed_type, renamed_params, renamed_method}
 use Rattle.rg_renamed.proofs.Numbered.{method-slots}
 use Rattle.rg_renamed.proofs.Classes.{AreFew, type-again}

@@ -16,8 +16,8 @@ use Rattle.rg_rules.specs.Paths.{walk_receiver, writable_field}
 use Rattle.rg_rules.proofs.Answers.{bind-ok, test-then, ok_or-ok}
 use Rattle.rg_rules.proofs.Path.{follow-ok, look_up-ok}
 use Rattle.rg_code.specs.Lowering.{Scope, slot_of, type_in, field_number, type_behind, type_along, held_number, class_of}
-use Rattle.rg_verify.specs.Naming.{variable_in, field_name}
-use Rattle.rg_verify.specs.Raised.{AreFound, IsPathFound}
+use Rattle.rg_verify_expressions.specs.Naming.{variable_in, field_name}
+use Rattle.rg_verify_expressions.specs.Raised.{AreFound, IsPathFound}
 use Rattle.rg_numbered.specs.Numbered.{field_numbers, path_numbers}
 use Rattle.rg_renamed.specs.Renamed.{renamed_classes}
 use Rattle.rg_renamed.proofs.Classes.{AreFew, FieldAgain, field-again, element-again, classes-long}

@@ -15,7 +15,7 @@ use Rattle.std.proofs.Common.{Ok}
 use Rattle.rg_sound.proofs.Frames.Entry.{Absent, Distinct, Stays, Stays-distinct, same_variable-true}
 use Rattle.rg_sound.proofs.Frames.Judge.{judge_enter-inner, judge_kind-goes}
 use Rattle.rg_code.specs.Lowering.{Slot, Scope, with_slot, slot_of, type_in, scope_behind, scope_inside}
-use Rattle.rg_verify.specs.Naming.{variable_name, variable_in}
+use Rattle.rg_verify_expressions.specs.Naming.{variable_name, variable_in}
 use Rattle.rg_renamed.specs.Renamed.{renamed_from}
 use Rattle.rg_renamed.proofs.Names.{same-slot, other-slot, from-long}
 use Rattle.rg_renamed.proofs.Environments.{Matches, matches-stays, inside-matches, behind-matches}

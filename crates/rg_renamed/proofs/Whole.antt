@@ -31,7 +31,7 @@ use Rattle.rg_spell.specs.declared.rows.Head.{Head}
 use Rattle.rg_module.specs.Parts.{Parts}
 use Rattle.rg_build.specs.Maps.{block_maps, method_maps, members_maps, methods_maps, maps_of}
 use Rattle.rg_build.specs.ModuleOf.{field_types, shape_of, shapes_of, head_of, member_heads, class_heads, heads_of, laid, module_of}
-use Rattle.rg_verify.specs.Found.{BlocksHaveTheirCode}
+use Rattle.rg_verify_expressions.specs.Found.{BlocksHaveTheirCode}
 use Rattle.rg_renamed.specs.Renamed.{renamed_classes, renamed_type, renamed_block, renamed_params, renamed_method, renamed_field, renamed_from}
 use Rattle.rg_renamed.specs.Renamed.{renamed_members, renamed_class, renamed}
 use Rattle.rg_renamed.proofs.Numbered.{params-long}

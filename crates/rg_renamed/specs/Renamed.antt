@@ -1,12 +1,12 @@
 -- A program with numbers for names (docs/architecture.md, "Modules"). Class k is `ck`; its members are its fields `f0`, `f1`, .. and then its
 -- methods `m0`, `m1`, .., each in order; and the variable of slot k is `vk`. Bodies are the blocks with numbers of rg_numbered, given the names of
--- rg_verify. All else, and each line, is as it was.
+-- rg_verify_expressions. All else, and each line, is as it was.
 use Rattle.std.specs.Prelude.{ℕ, suc, Bool as Truth, true, false, List, [], ◌∷◌, ◌++◌, length, filter_map, option_map}
 use Rattle.rg_tree.specs.Tree.{Ty as Written, Block, Param, Field, Method, Member, field, method, Class, Tree}
 use Rattle.rg_rules.specs.Types.{type_of, field_member, method_member}
 use Rattle.rg_code.specs.Lowering.{Scope, method_scope}
-use Rattle.rg_verify.specs.Naming.{variable_name, field_name, class_name, method_name, written}
-use Rattle.rg_verify.specs.Found.{block_named}
+use Rattle.rg_verify_expressions.specs.Naming.{variable_name, field_name, class_name, method_name, written}
+use Rattle.rg_verify_expressions.specs.Found.{block_named}
 use Rattle.rg_numbered.specs.Numbered.{numbered_block}
 
 -- a type

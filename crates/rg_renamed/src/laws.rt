@@ -13,7 +13,7 @@ pub fn renamed_is_numbered()
 pub fn same_module()
     ensures { SameModule }
 {
-    rg_verify::blocks_have_their_code();
+    rg_verify_expressions::blocks_have_their_code();
 }
 
 /// It is accepted.

@@ -1,9 +1,4 @@
--- The definitions that the clauses of rg_sched name (docs/architecture.md, "Schedules").
-pub mod Numbers
-pub mod Contents
-pub mod Behaviours
-pub mod Phases
-pub mod Settings
-pub mod Atomic
-pub mod Events
-pub mod Laws
+-- The definitions that the clauses of rg_sched name (docs/architecture.md, "Worlds").
+pub mod Schedules
+pub mod Running
+pub mod Inner

@@ -7,7 +7,7 @@ use Rattle.std.proofs.lemmas.List.{drop_more, map-append}
 use Rattle.std.proofs.lemmas.Option.{slice_get_within, get_or_from_slice_get}
 use Rattle.rg_cown.specs.Cargo.{CargoList}
 use Rattle.rg_plan.specs.declared.cown.Cown.{Cown}
-use Rattle.rg_sched.specs.Settings.{start_contents, start_of}
+use Rattle.rg_sched_atomic.specs.Settings.{start_contents, start_of}
 use Rattle.rg_base.specs.declared.value.Val.{Val}
 use Rattle.rg_tree.specs.Rows.Tables.{Tables}
 use Rattle.rg_tree.specs.Rows.RowTrees.{member_at}
@@ -21,7 +21,7 @@ use Rattle.rg_rules.specs.RightSides.{opening_value}
 use Rattle.rg_rules.specs.Types.{fields_of, members_of, field_member}
 use Rattle.rg_opening.specs.declared.given.Given.{Given}
 use Rattle.rg_opening.specs.declared.given.Given.TheVariants as given
-use Rattle.rg_sched.specs.Contents.{Content, Held, first_of, rest_of, given_of, givens}
+use Rattle.rg_sched_atomic.specs.Contents.{Content, Held, first_of, rest_of, given_of, givens}
 
 -- the fields of a class that is there
 pub fields-are : (classes : List Class) (c : ℕ) (k : Class) (ms : List Member) → slice_get classes c ≡ Some k → ms ≡ k.members

@@ -4,8 +4,8 @@ use Rattle.std.proofs.Common.{None, unwrap_or, All, refl, sym, ap, ◌∙◌, su
 use Rattle.std.specs.declared.vec.IntoIter.{IntoIter}
 use Rattle.std.specs.Vec.Iter.{into_iter_items, into_iter_len, into_iter_steps}
 use Rattle.std.proofs.lemmas.List.{drop_more, get_or-set_other, length-set, map-set, map-append}
-use Rattle.rg_sched.specs.Numbers.{In, Distinct}
-use Rattle.rg_sched.specs.Contents.{Content, Away, Empty, contents_at, put}
+use Rattle.rg_sched_atomic.specs.Numbers.{In, Distinct}
+use Rattle.rg_sched_atomic.specs.Contents.{Content, Away, Empty, contents_at, put}
 use Rattle.rg_slots.specs.declared.slot.Slot.{Slot}
 use Rattle.rg_slots.specs.declared.slot.Slot.TheVariants as slot
 use Rattle.rg_slots.specs.Slots.{content_in}

@@ -3,7 +3,7 @@ use Rattle.std.specs.Prelude.{Option, Some, None}
 use Rattle.rg_base.specs.declared.value.Val.TheVariants.{Nil}
 use Rattle.rg_opening.specs.declared.given.Given.{Given}
 use Rattle.rg_opening.specs.declared.given.Given.TheVariants as given
-use Rattle.rg_sched.specs.Contents.{Content, Away, Empty, Held, given_of}
+use Rattle.rg_sched_atomic.specs.Contents.{Content, Away, Empty, Held, given_of}
 use Rattle.rg_slots.specs.declared.slot.Slot.{Slot}
 use Rattle.rg_slots.specs.declared.slot.Slot.TheVariants as slot
 

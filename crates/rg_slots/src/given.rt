@@ -3,7 +3,7 @@
 ghost use Rattle.std.specs.Prelude.{◌≡◌, ◌<◌, length, map, IfOk};
 ghost use Rattle.rg_tree.specs.Rows.RowTrees.{classes_of};
 ghost use Rattle.rg_rules.specs.Types.{fields_of};
-ghost use Rattle.rg_sched.specs.Contents.{givens};
+ghost use Rattle.rg_sched_atomic.specs.Contents.{givens};
 ghost use Rattle.rg_slots.specs.Slots.{content_in, first_given};
 
 use crate::fields::{is_iso, opening_value};

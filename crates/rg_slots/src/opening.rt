@@ -5,8 +5,8 @@ ghost use Rattle.rg_tree.specs.Rows.RowTrees.{classes_of};
 ghost use Rattle.rg_rules.specs.Types.{fields_of};
 ghost use Rattle.rg_rules.specs.RightSides as rules;
 ghost use Rattle.rg_plan.specs.declared.cown.Cown.{Cown as CownOf};
-ghost use Rattle.rg_sched.specs.Contents.{Held as held};
-ghost use Rattle.rg_sched.specs.Settings.{new_content, start_contents};
+ghost use Rattle.rg_sched_atomic.specs.Contents.{Held as held};
+ghost use Rattle.rg_sched_atomic.specs.Settings.{new_content, start_contents};
 
 use crate::fields::opening_value;
 use crate::slot::Slot;

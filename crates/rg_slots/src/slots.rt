@@ -2,8 +2,8 @@
 
 ghost use Rattle.std.specs.Prelude.{◌≡◌, ◌<◌, All, IfOk, OnOk, Some, length, map, slice_get};
 ghost use Rattle.std.specs.Prelude.{unwrap_or};
-ghost use Rattle.rg_sched.specs.Contents.{Away as away, contents_at, put};
-ghost use Rattle.rg_sched.specs.Numbers.{Distinct};
+ghost use Rattle.rg_sched_atomic.specs.Contents.{Away as away, contents_at, put};
+ghost use Rattle.rg_sched_atomic.specs.Numbers.{Distinct};
 ghost use Rattle.rg_slots.specs.Slots.{content_in};
 
 use crate::slot::Slot;
@@ -20,7 +20,7 @@ pub struct Slots {
 
 impl Model for Slots {
     ghost use Rattle.std.specs.Prelude.{List, map};
-    ghost use Rattle.rg_sched.specs.Contents.{Content};
+    ghost use Rattle.rg_sched_atomic.specs.Contents.{Content};
     ghost use Rattle.rg_slots.specs.Slots.{content_in};
 
     ghost Value = { List Content };

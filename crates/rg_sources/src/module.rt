@@ -14,7 +14,7 @@ use rg_base::Stop;
 use rg_check::Accepted;
 use rg_io::{Files, Taken, take_all};
 use rg_module::decode;
-use rg_verified::verify;
+use rg_verify::verify;
 use rg_words::{MODULE_BYTES, Status};
 use std::alloc::Global;
 

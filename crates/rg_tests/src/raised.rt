@@ -3,7 +3,7 @@
 use rg_base::Memory;
 use rg_code::{CodeList, Op};
 use rg_tree::Program;
-use rg_verify::{Refusal, raise_expressions};
+use rg_verify_expressions::{Refusal, raise_expressions};
 use std::alloc::Global;
 
 // Code, and how many expressions stand in front of it up to which address, where any do.

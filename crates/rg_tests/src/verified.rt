@@ -4,7 +4,7 @@
 use crate::modules::{POPPED, RICH, SEVEN};
 use rg_base::{Code, Fault, Stop};
 use rg_module::decode;
-use rg_verified::verify;
+use rg_verify::verify;
 use std::alloc::Global;
 use std::test::*;
 

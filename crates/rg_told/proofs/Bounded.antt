@@ -11,11 +11,11 @@ use Rattle.rg_rules.specs.Types.{field_member, method_member}
 use Rattle.rg_spell.specs.declared.rows.Shape.{Shape}
 use Rattle.rg_spell.specs.declared.rows.Head.{Head}
 use Rattle.rg_module.specs.Parts.{Parts}
-use Rattle.rg_verify.specs.Statements.{Kind, declare, assign, write, write_element, call, swap, branch, while, enter, enter_field, print, collect}
-use Rattle.rg_verify.specs.Statements.{return, Else, no_else, otherwise, Block, empty, next}
-use Rattle.rg_verify.specs.Standing.{kind_depth, else_depth, block_depth}
-use Rattle.rg_verify.specs.Blocks.{◌>>◌, test}
-use Rattle.rg_verify.specs.Found.{slots_behind, kind_named, else_named, block_named}
+use Rattle.rg_verify_expressions.specs.Statements.{Kind, declare, assign, write, write_element, call, swap, branch, while, enter, enter_field, print, collect}
+use Rattle.rg_verify_expressions.specs.Statements.{return, Else, no_else, otherwise, Block, empty, next}
+use Rattle.rg_verify_expressions.specs.Standing.{kind_depth, else_depth, block_depth}
+use Rattle.rg_verify_expressions.specs.Blocks.{◌>>◌, test}
+use Rattle.rg_verify_expressions.specs.Found.{slots_behind, kind_named, else_named, block_named}
 use Rattle.rg_classes.specs.Order.{place_of, takes_methods, may_follow, are_ordered, have_few_fields, are_tables, callees_of}
 use Rattle.rg_classes.specs.Written.{Bodied, field_written, numbered, method_written, methods_written, run, members_written}
 use Rattle.rg_classes.specs.Written.{classes_written}

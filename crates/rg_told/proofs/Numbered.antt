@@ -6,10 +6,10 @@ use Rattle.rg_tree.specs.Tree.{Member, field, method, Tree}
 use Rattle.rg_spell.specs.declared.rows.Shape.{Shape}
 use Rattle.rg_spell.specs.declared.rows.Head.{Head}
 use Rattle.rg_module.specs.Parts.{Parts}
-use Rattle.rg_verify.specs.Naming.{written}
-use Rattle.rg_verify.specs.Statements.{Kind, declare, assign, write, write_element, call, swap, branch, while, enter, enter_field, print, collect}
-use Rattle.rg_verify.specs.Statements.{return, Else, no_else, otherwise, Block, empty, next}
-use Rattle.rg_verify.specs.Found.{slots_behind, kind_named, else_named, block_named}
+use Rattle.rg_verify_expressions.specs.Naming.{written}
+use Rattle.rg_verify_expressions.specs.Statements.{Kind, declare, assign, write, write_element, call, swap, branch, while, enter, enter_field, print, collect}
+use Rattle.rg_verify_expressions.specs.Statements.{return, Else, no_else, otherwise, Block, empty, next}
+use Rattle.rg_verify_expressions.specs.Found.{slots_behind, kind_named, else_named, block_named}
 use Rattle.rg_classes.specs.Written.{Bodied, field_written, param_written, numbered, method_written, methods_written, run, members_written}
 use Rattle.rg_classes.specs.Written.{classes_written}
 use Rattle.rg_bodies.specs.Bodies.{RaisedBody, Bodies}

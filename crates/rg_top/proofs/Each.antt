@@ -14,7 +14,7 @@ use Rattle.rg_lines.specs.Laws.{SameAsks}
 use Rattle.rg_module.specs.Parts.{Parts}
 use Rattle.rg_module.specs.Laws.{SpellsOneModule}
 use Rattle.rg_raised.specs.Raises.{Raises}
-use Rattle.rg_verified.specs.Told.{RaisedAlike}
+use Rattle.rg_verify.specs.Told.{RaisedAlike}
 use Rattle.rg_rules.specs.Outside.Asks.{asks}
 use Rattle.rg_run.specs.Asked.{Asks, raised}
 use Rattle.rg_run.specs.Machine.{Kept, IsFresh}

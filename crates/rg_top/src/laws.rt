@@ -11,7 +11,7 @@ pub fn each_runs()
     ensures { EachRuns }
 {
     rg_module::at_most_one_module();
-    rg_verified::raised_alike();
+    rg_verify::raised_alike();
     rg_alike::stand_alike();
     rg_lines::same_asks();
 }

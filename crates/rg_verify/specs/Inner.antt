@@ -1,4 +1,2 @@
--- What joins the private layers of this crate; no clause of a public call cites it.
-pub mod Adds
-pub mod Stacks
-pub mod Unaries
+-- Joins the parts of the verifier (docs/architecture.md, "Modules").
+pub mod Verdicts

@@ -1,42 +1,34 @@
-//! The laws of raised expressions and blocks, as contracts of functions that do nothing
+//! The laws of programs that raise a module, as contracts of functions that do nothing
 //! (docs/architecture.md, "Modules").
 
-ghost use Rattle.rg_verify.specs.Blocks.{RaisedBlocksStand};
-ghost use Rattle.rg_verify.specs.Found.{BlocksHaveTheirCode};
-ghost use Rattle.rg_verify.specs.Raises.{StandOnce, HaveTheirCode};
-ghost use Rattle.rg_verify.specs.Standing.{BlocksAreTold, BlocksStandOnce, StandingBlocksAreTold};
+ghost use Rattle.rg_raised.specs.Told.{program_told};
+ghost use Rattle.rg_verify.specs.Told.{RaisedAlike, TellsRaised, ToldRaisesIfAny};
 
-/// Instructions begin with the code of at most one list of expressions, objects and places.
-pub fn expressions_stand_once()
-    ensures { StandOnce }
-{}
+/// Each program that raises a module is told by it, but for lines that no mark has.
+pub fn raised_are_told()
+    ensures { TellsRaised program_told }
+{
+    rg_limits::limits_bound();
+    rg_verify_expressions::blocks_have_their_code();
+    rg_bodies::standing_bodies_are_told();
+    rg_numbered::accepted_are_numbered();
+    rg_fitted::modules_fit();
+}
 
-/// With names that are found, raised expressions have the code that they were raised from.
-pub fn raised_have_their_code()
-    ensures { HaveTheirCode }
-{}
+/// Programs that raise one module are the same but for lines that no mark has.
+pub fn raised_alike()
+    ensures { RaisedAlike }
+{
+    raised_are_told();
+}
 
-/// With names that are found, blocks of statements have the code that they have with numbers.
-pub fn blocks_have_their_code()
-    ensures { BlocksHaveTheirCode }
-{}
-
-/// The block that is raised at an address has the code that stands there.
-pub fn raised_blocks_stand()
-    ensures { RaisedBlocksStand }
-{}
-
-/// Each block that stands at an address is the one that is raised there.
-pub fn standing_blocks_are_told()
-    ensures { StandingBlocksAreTold }
-{}
-
-/// At most one block stands at an address.
-pub fn blocks_stand_once()
-    ensures { BlocksStandOnce }
-{}
-
-/// What raising tells at an address is the block that stands there, or none does.
-pub fn blocks_are_told()
-    ensures { BlocksAreTold }
-{}
+/// Where some program raises a module, the program that it tells does.
+pub fn told_raises_if_any()
+    ensures { ToldRaisesIfAny }
+{
+    raised_are_told();
+    rg_told::told_are_numbered();
+    rg_limits::limits_are_lineless();
+    rg_lines::same_acceptance();
+    rg_same::same_module();
+}

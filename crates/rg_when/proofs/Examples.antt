@@ -8,8 +8,8 @@ use Rattle.rg_cown.specs.Cargo.{CargoList}
 use Rattle.rg_cown.specs.Contents.{read_on}
 use Rattle.rg_plan.specs.Plans.{Read, PlanOf}
 use Rattle.rg_plan.specs.Rules.{plan_of}
-use Rattle.rg_sched.specs.Contents.{Empty}
-use Rattle.rg_schedule.specs.Schedules.{Whole, BadAt, TooLong, schedule_of, schedule_from}
+use Rattle.rg_sched_atomic.specs.Contents.{Empty}
+use Rattle.rg_sched.specs.Schedules.{Whole, BadAt, TooLong, schedule_of, schedule_from}
 use Rattle.rg_words.specs.declared.status.Status.TheVariants as status
 use Rattle.rg_words.specs.Answers.{Answer, refused}
 use Rattle.rg_when.specs.Scheduled.{kept_of, schedule_answer}

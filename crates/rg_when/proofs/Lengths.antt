@@ -7,12 +7,12 @@ use Rattle.rg_code.specs.Code.{Code}
 use Rattle.rg_cown.specs.Cargo.{CargoList}
 use Rattle.rg_plan.specs.Plans.{Turn as Behaviour, PlanOf}
 use Rattle.rg_plan.specs.declared.cown.Cown.{Cown}
-use Rattle.rg_sched.specs.Contents.{Content, Held, rest_of, first_of, put}
-use Rattle.rg_sched.specs.Settings.{start_contents, setting_of}
-use Rattle.rg_sched.specs.Atomic.{Told, at_first, do_one, do_all}
-use Rattle.rg_sched.specs.Events.{world_after}
-use Rattle.rg_sched.specs.Laws.{OneByOne, PlansAreSettings}
-use Rattle.rg_schedule.specs.Running.{WorldIn, IsBehind}
+use Rattle.rg_sched_atomic.specs.Contents.{Content, Held, rest_of, first_of, put}
+use Rattle.rg_sched_atomic.specs.Settings.{start_contents, setting_of}
+use Rattle.rg_sched_atomic.specs.Atomic.{Told, at_first, do_one, do_all}
+use Rattle.rg_sched_atomic.specs.Events.{world_after}
+use Rattle.rg_sched_atomic.specs.Laws.{OneByOne, PlansAreSettings}
+use Rattle.rg_sched.specs.Running.{WorldIn, IsBehind}
 use Rattle.rg_when.specs.Scheduled.{told_behind}
 use Rattle.rg_when.proofs.Told.{told-alike}
 

@@ -6,12 +6,12 @@ use Rattle.rg_tree.specs.Tree.{Tree}
 use Rattle.rg_code.specs.Code.{Code}
 use Rattle.rg_cown.specs.Cargo.{CargoList}
 use Rattle.rg_plan.specs.Plans.{PlanOf}
-use Rattle.rg_sched.specs.Contents.{Content, Away, Empty, Held}
-use Rattle.rg_schedule.specs.Schedules.{Whole, schedule_of}
-use Rattle.rg_schedule.specs.Running.{CountIs}
-use Rattle.rg_schedule.specs.declared.running.Behind.{Behind}
-use Rattle.rg_schedule.specs.declared.stop.SchedStop.{SchedStop}
-use Rattle.rg_schedule.specs.declared.stop.SchedStop.TheVariants as stop
+use Rattle.rg_sched_atomic.specs.Contents.{Content, Away, Empty, Held}
+use Rattle.rg_sched.specs.Schedules.{Whole, schedule_of}
+use Rattle.rg_sched.specs.Running.{CountIs}
+use Rattle.rg_sched.specs.declared.running.Behind.{Behind}
+use Rattle.rg_sched.specs.declared.stop.SchedStop.{SchedStop}
+use Rattle.rg_sched.specs.declared.stop.SchedStop.TheVariants as stop
 use Rattle.rg_words.specs.declared.status.Status.{Status}
 use Rattle.rg_words.specs.declared.status.Status.TheVariants as status
 use Rattle.rg_words.specs.Statuses.{is_cut_off}

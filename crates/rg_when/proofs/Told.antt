@@ -6,14 +6,14 @@ use Rattle.rg_tree.specs.Tree.{Tree}
 use Rattle.rg_code.specs.Code.{Code}
 use Rattle.rg_cown.specs.Cargo.{CargoList}
 use Rattle.rg_plan.specs.Plans.{PlanOf}
-use Rattle.rg_sched.specs.Contents.{Content, Empty}
-use Rattle.rg_sched.specs.Settings.{setting_of}
-use Rattle.rg_sched.specs.Atomic.{Told}
-use Rattle.rg_sched.specs.Events.{world_after}
-use Rattle.rg_sched.specs.Laws.{OneByOne, PlansAreSettings}
-use Rattle.rg_schedule.specs.Running.{IsCounted}
-use Rattle.rg_schedule.specs.declared.running.Behind.{Behind}
-use Rattle.rg_schedule.specs.Running.{WorldIn, IsBehind}
+use Rattle.rg_sched_atomic.specs.Contents.{Content, Empty}
+use Rattle.rg_sched_atomic.specs.Settings.{setting_of}
+use Rattle.rg_sched_atomic.specs.Atomic.{Told}
+use Rattle.rg_sched_atomic.specs.Events.{world_after}
+use Rattle.rg_sched_atomic.specs.Laws.{OneByOne, PlansAreSettings}
+use Rattle.rg_sched.specs.Running.{IsCounted}
+use Rattle.rg_sched.specs.declared.running.Behind.{Behind}
+use Rattle.rg_sched.specs.Running.{WorldIn, IsBehind}
 use Rattle.rg_world_text.specs.Text.{world_text}
 use Rattle.rg_when.specs.Inner.Puts.{text_answer}
 use Rattle.rg_when.specs.Scheduled.{told_behind, text_behind, kept_of, answer_behind}

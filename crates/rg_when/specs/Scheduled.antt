@@ -6,11 +6,11 @@ use Rattle.rg_tree.specs.Tree.{Class, Tree}
 use Rattle.rg_cown.specs.Cargo.{CargoList}
 use Rattle.rg_image.specs.ImageText.{image_text}
 use Rattle.rg_plan.specs.Plans.{PlanOf}
-use Rattle.rg_sched.specs.Contents.{Content, Away, Empty, Held}
-use Rattle.rg_sched.specs.Settings.{Setting, setting_of}
-use Rattle.rg_sched.specs.Atomic.{Told, World, atomic}
-use Rattle.rg_sched.specs.Events.{world_after}
-pub use Rattle.rg_schedule.specs.Schedules.{Schedule as Said, Whole, BadAt, TooLong, schedule_of}
+use Rattle.rg_sched_atomic.specs.Contents.{Content, Away, Empty, Held}
+use Rattle.rg_sched_atomic.specs.Settings.{Setting, setting_of}
+use Rattle.rg_sched_atomic.specs.Atomic.{Told, World, atomic}
+use Rattle.rg_sched_atomic.specs.Events.{world_after}
+pub use Rattle.rg_sched.specs.Schedules.{Schedule as Said, Whole, BadAt, TooLong, schedule_of}
 use Rattle.rg_world_text.specs.Text.{world_text}
 use Rattle.rg_words.specs.declared.status.Status.{Status}
 use Rattle.rg_words.specs.declared.status.Status.TheVariants as status

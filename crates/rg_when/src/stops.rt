@@ -4,7 +4,7 @@ ghost use Rattle.std.specs.Prelude.{◌≡◌};
 ghost use Rattle.rg_when.specs.Inner.Stops.{status_of};
 
 use rg_base::{Code, Fault};
-use rg_schedule::SchedStop;
+use rg_sched::SchedStop;
 use rg_words::Status;
 
 /// The status of a call whose schedule wasn't run to its end.

@@ -3,7 +3,7 @@
 ghost use Rattle.std.specs.Prelude.{◌<◌, length, IfSome};
 ghost use Rattle.rg_tree.specs.Rows.RowTrees.{program_of};
 ghost use Rattle.rg_contents.specs.Read.{IsReadFor};
-ghost use Rattle.rg_schedule.specs.Running.{SameTuned, both};
+ghost use Rattle.rg_sched.specs.Running.{SameTuned, both};
 ghost use Rattle.rg_words.specs.Answers.{CausedBeside};
 ghost use Rattle.rg_when.specs.Scheduled.{SettlesSchedule};
 
@@ -16,7 +16,7 @@ use rg_io::{Sink, Source};
 use rg_lower::lower;
 use rg_pace::Pacer;
 use rg_plan::Plan;
-use rg_schedule::run_counted;
+use rg_sched::run_counted;
 use rg_words::Status;
 use std::alloc::Global;
 

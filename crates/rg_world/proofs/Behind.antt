@@ -14,14 +14,14 @@ use Rattle.rg_contents.specs.Rest.{IsReady}
 use Rattle.rg_first.specs.First.{IsFirst, IsOfBehaviour}
 use Rattle.rg_plan.specs.Laws.{IsGoodTurn, PlansAreGood}
 use Rattle.rg_plan.specs.Plans.{Turn as Behaviour, PlanOf, in_front_of}
-use Rattle.rg_sched.specs.Numbers.{In, Distinct}
-use Rattle.rg_sched.specs.Contents.{Content, Away, contents_at, givens, put, left_by}
-use Rattle.rg_sched.specs.Behaviours.{run_of, cowns_in}
-use Rattle.rg_sched.specs.Phases.{printed_by}
-use Rattle.rg_sched.specs.Settings.{Setting, setting_of}
-use Rattle.rg_sched.specs.Atomic.{World, tell}
-use Rattle.rg_sched.specs.Events.{may_begin, one_more, steps_on, event, first_world, world_after}
-use Rattle.rg_sched.specs.Laws.{PlansAreSettings, FrontsAreEnough, AllSeparate}
+use Rattle.rg_sched_atomic.specs.Numbers.{In, Distinct}
+use Rattle.rg_sched_atomic.specs.Contents.{Content, Away, contents_at, givens, put, left_by}
+use Rattle.rg_sched_atomic.specs.Behaviours.{run_of, cowns_in}
+use Rattle.rg_sched_atomic.specs.Phases.{printed_by}
+use Rattle.rg_sched_atomic.specs.Settings.{Setting, setting_of}
+use Rattle.rg_sched_atomic.specs.Atomic.{World, tell}
+use Rattle.rg_sched_atomic.specs.Events.{may_begin, one_more, steps_on, event, first_world, world_after}
+use Rattle.rg_sched_atomic.specs.Laws.{PlansAreSettings, FrontsAreEnough, AllSeparate}
 use Rattle.rg_slots.specs.declared.slot.Slot.{Slot}
 use Rattle.rg_step.specs.Stepping.{Stepping}
 use Rattle.rg_world.specs.declared.progress.Progress.{Progress}

@@ -8,11 +8,11 @@ use Rattle.rg_rules.specs.Runs.{Ending, Running, Done, Stopped, Ran}
 use Rattle.rg_cown.specs.Cargo.{CargoList}
 use Rattle.rg_plan.specs.Plans.{Turn as Behaviour, PlanOf}
 use Rattle.rg_plan.specs.declared.cown.Cown.{Cown}
-use Rattle.rg_sched.specs.Numbers.{In}
-use Rattle.rg_sched.specs.Contents.{Content, Away, Empty, Held, rest_of, first_of, put}
-use Rattle.rg_sched.specs.Settings.{Setting, start_contents, setting_of}
-use Rattle.rg_sched.specs.Atomic.{World}
-use Rattle.rg_sched.specs.Events.{may_begin, begins, steps_on, event_by, event_of, event, after, first_world, world_after}
+use Rattle.rg_sched_atomic.specs.Numbers.{In}
+use Rattle.rg_sched_atomic.specs.Contents.{Content, Away, Empty, Held, rest_of, first_of, put}
+use Rattle.rg_sched_atomic.specs.Settings.{Setting, start_contents, setting_of}
+use Rattle.rg_sched_atomic.specs.Atomic.{World}
+use Rattle.rg_sched_atomic.specs.Events.{may_begin, begins, steps_on, event_by, event_of, event, after, first_world, world_after}
 use Rattle.rg_world.proofs.Lists.{set-past, within_or_past}
 
 -- one event more

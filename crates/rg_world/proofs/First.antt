@@ -13,10 +13,10 @@ use Rattle.rg_cown.specs.Cargo.{CargoList}
 use Rattle.rg_plan.specs.declared.cown.Cown.{Cown}
 use Rattle.rg_plan.specs.Laws.{PlansAreGood}
 use Rattle.rg_plan.specs.Plans.{PlanOf}
-use Rattle.rg_sched.specs.Contents.{Content, Held}
-use Rattle.rg_sched.specs.Phases.{printed_by}
-use Rattle.rg_sched.specs.Settings.{Setting, setting_of}
-use Rattle.rg_sched.specs.Events.{first_world}
+use Rattle.rg_sched_atomic.specs.Contents.{Content, Held}
+use Rattle.rg_sched_atomic.specs.Phases.{printed_by}
+use Rattle.rg_sched_atomic.specs.Settings.{Setting, setting_of}
+use Rattle.rg_sched_atomic.specs.Events.{first_world}
 use Rattle.rg_world.specs.declared.progress.Progress.{Progress}
 use Rattle.rg_world.specs.Standing.{IsProgress}
 use Rattle.rg_contents.specs.Read.{IsReadFor}

@@ -15,8 +15,8 @@ use Rattle.rg_opening.specs.Opening.{opening_of}
 use Rattle.rg_begin.specs.Starts.{Starts}
 use Rattle.rg_contents.specs.Rest.{IsReady}
 use Rattle.rg_plan.specs.Plans.{Turn as Behaviour}
-use Rattle.rg_sched.specs.Behaviours.{all_methods, idle, run_of}
-use Rattle.rg_sched.specs.Contents.{Content, givens}
+use Rattle.rg_sched_atomic.specs.Behaviours.{all_methods, idle, run_of}
+use Rattle.rg_sched_atomic.specs.Contents.{Content, givens}
 use Rattle.rg_step.specs.Begins.{Begins}
 use Rattle.rg_step.specs.Stepping.{Stepping}
 use Rattle.rg_world.specs.Standing.{RunsAs}

@@ -17,7 +17,7 @@ use Rattle.rg_cown.specs.Cargo.{CargoList}
 use Rattle.rg_cown.specs.Contents.{no_object}
 use Rattle.rg_content.specs.Fields.{IsContent, IsOwnField}
 use Rattle.rg_first.specs.First.{IsOfBehaviour}
-use Rattle.rg_sched.specs.Contents.{Held, content_of, goes_back, iso_values, onto_if}
+use Rattle.rg_sched_atomic.specs.Contents.{Held, content_of, goes_back, iso_values, onto_if}
 use Rattle.rg_slots.specs.declared.slot.Slot.{Slot}
 use Rattle.rg_slots.specs.Slots.{content_in}
 use Rattle.rg_world.specs.Inner.Steps.{slot_of}

@@ -9,12 +9,12 @@ use Rattle.rg_rules.specs.Types.{fields_of}
 use Rattle.rg_rules.specs.Runs.{Running, Ran}
 use Rattle.rg_code.specs.Code.{Code}
 use Rattle.rg_plan.specs.Plans.{Turn as Behaviour}
-use Rattle.rg_sched.specs.Contents.{Content, put, left_by}
-use Rattle.rg_sched.specs.Behaviours.{is_over, has_ended}
-use Rattle.rg_sched.specs.declared.phase.Phase.{Phase}
-use Rattle.rg_sched.specs.declared.phase.Phase.TheVariants as phase
-use Rattle.rg_sched.specs.Atomic.{tell, World}
-use Rattle.rg_sched.specs.Laws.{all_ended}
+use Rattle.rg_sched_atomic.specs.Contents.{Content, put, left_by}
+use Rattle.rg_sched_atomic.specs.Behaviours.{is_over, has_ended}
+use Rattle.rg_sched_atomic.specs.declared.phase.Phase.{Phase}
+use Rattle.rg_sched_atomic.specs.declared.phase.Phase.TheVariants as phase
+use Rattle.rg_sched_atomic.specs.Atomic.{tell, World}
+use Rattle.rg_sched_atomic.specs.Laws.{all_ended}
 use Rattle.rg_world.specs.declared.progress.Progress.{Progress}
 use Rattle.rg_world.specs.declared.progress.Standing.{Standing}
 use Rattle.rg_world.specs.declared.progress.Standing.TheVariants as stands

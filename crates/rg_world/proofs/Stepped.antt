@@ -21,7 +21,7 @@ use Rattle.rg_held.specs.Shown.{ShowsHeld}
 use Rattle.rg_machine.specs.Parts.{machine_in}
 use Rattle.rg_plain.specs.Outcomes.{EndsMain}
 use Rattle.rg_plain.proofs.Behind.{settles_by, ends_by}
-use Rattle.rg_sched.specs.Events.{one_more}
+use Rattle.rg_sched_atomic.specs.Events.{one_more}
 use Rattle.rg_step.specs.Behaviours.{HoldsFirst}
 use Rattle.rg_step.specs.Sound.{IsSound}
 use Rattle.rg_step.specs.States.{OneStep, Standing}

@@ -5,9 +5,9 @@ use Rattle.rg_rules.specs.Runs.{Running, Done, Stopped, Ran}
 use Rattle.rg_code.specs.Code.{Code}
 use Rattle.rg_machine.specs.Parts.{machine_in}
 use Rattle.rg_plain.specs.Outcomes.{EndsMain}
-use Rattle.rg_sched.specs.declared.phase.Phase.{Phase}
-use Rattle.rg_sched.specs.declared.phase.Phase.TheVariants as phase
-use Rattle.rg_sched.specs.Phases.{printed_by}
+use Rattle.rg_sched_atomic.specs.declared.phase.Phase.{Phase}
+use Rattle.rg_sched_atomic.specs.declared.phase.Phase.TheVariants as phase
+use Rattle.rg_sched_atomic.specs.Phases.{printed_by}
 use Rattle.rg_step.specs.Behaviours.{HoldsFirst}
 use Rattle.rg_step.specs.Sound.{IsSound}
 use Rattle.rg_step.specs.Steps.{Runs}

@@ -6,10 +6,10 @@ use Rattle.rg_cown.specs.Cargo.{CargoList}
 use Rattle.rg_code.specs.Code.{Code}
 use Rattle.rg_code.specs.Lowering.{Lowers}
 use Rattle.rg_plan.specs.Plans.{PlanOf}
-use Rattle.rg_sched.specs.Contents.{Content}
-use Rattle.rg_sched.specs.Settings.{setting_of}
-use Rattle.rg_sched.specs.Atomic.{World}
-use Rattle.rg_sched.specs.Events.{world_after}
+use Rattle.rg_sched_atomic.specs.Contents.{Content}
+use Rattle.rg_sched_atomic.specs.Settings.{setting_of}
+use Rattle.rg_sched_atomic.specs.Atomic.{World}
+use Rattle.rg_sched_atomic.specs.Events.{world_after}
 pub use Rattle.rg_step.specs.Pacers.{SameTuned, both}
 use Rattle.rg_contents.specs.Read.{IsReadFor}
 use Rattle.rg_world.specs.declared.progress.Progress.{Progress}

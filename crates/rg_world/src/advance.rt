@@ -4,7 +4,7 @@ ghost use Rattle.std.specs.Prelude.{◌≡◌, ◌<◌, ℕ, suc, Some, length, 
 ghost use Rattle.rg_tree.specs.Rows.RowTrees.{classes_of, program_of};
 ghost use Rattle.rg_rules.specs.Types.{fields_of};
 ghost use Rattle.rg_rules.specs.Runs.{Ran, Running as going};
-ghost use Rattle.rg_sched.specs.Events.{one_more};
+ghost use Rattle.rg_sched_atomic.specs.Events.{one_more};
 ghost use Rattle.rg_first.specs.First.{IsFirst, IsOfBehaviour};
 ghost use Rattle.rg_step.specs.Pacers.{SameTuned, both};
 ghost use Rattle.rg_world.specs.Standing.{StandsAs, IsProgress};

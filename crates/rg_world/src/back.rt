@@ -8,7 +8,7 @@ ghost use Rattle.rg_code.specs.Code.{Code};
 ghost use Rattle.rg_held.specs.Shown.{ShowsHeld};
 ghost use Rattle.rg_machine.specs.Parts.{machine_in};
 ghost use Rattle.rg_first.specs.First.{IsOfBehaviour};
-ghost use Rattle.rg_sched.specs.Contents.{goes_back};
+ghost use Rattle.rg_sched_atomic.specs.Contents.{goes_back};
 ghost use Rattle.rg_slots.specs.Slots.{content_in};
 ghost use Rattle.rg_step.specs.Behaviours.{HoldsFirst};
 ghost use Rattle.rg_world.specs.Inner.Steps.{slot_of};

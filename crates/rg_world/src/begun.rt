@@ -6,9 +6,9 @@ ghost use Rattle.rg_rules.specs.Acceptance.{Accepted as accepts};
 ghost use Rattle.rg_rules.specs.Types.{fields_of};
 ghost use Rattle.rg_code.specs.Lowering.{Lowers};
 ghost use Rattle.rg_contents.specs.Rest.{IsReady};
-ghost use Rattle.rg_sched.specs.Behaviours.{run_of};
-ghost use Rattle.rg_sched.specs.Contents.{Away, contents_at, givens, put};
-ghost use Rattle.rg_sched.specs.Numbers.{Distinct};
+ghost use Rattle.rg_sched_atomic.specs.Behaviours.{run_of};
+ghost use Rattle.rg_sched_atomic.specs.Contents.{Away, contents_at, givens, put};
+ghost use Rattle.rg_sched_atomic.specs.Numbers.{Distinct};
 ghost use Rattle.rg_world.specs.Standing.{RunsAs};
 
 use rg_base::Memory;

@@ -3,7 +3,7 @@
 ghost use Rattle.std.specs.Prelude.{◌≡◌, ℕ, [], false};
 ghost use Rattle.rg_tree.specs.Tree.{Tree};
 ghost use Rattle.rg_rules.specs.Runs.{Ran};
-ghost use Rattle.rg_sched.specs.Events.{one_more};
+ghost use Rattle.rg_sched_atomic.specs.Events.{one_more};
 ghost use Rattle.rg_first.specs.First.{IsFirst};
 ghost use Rattle.rg_step.specs.Pacers.{SameTuned, both};
 ghost use Rattle.rg_world.specs.Standing.{RunsAs};

@@ -26,7 +26,7 @@ use rg_contents::{beginning_is_allowed, runs_are_of_behaviours};
 use rg_cown::Cargo;
 use rg_pace::Pacer;
 use rg_plan::{Plan, plans_are_good};
-use rg_sched::{Phase, contents_are_separate, fronts_are_enough, plans_are_settings};
+use rg_sched_atomic::{Phase, contents_are_separate, fronts_are_enough, plans_are_settings};
 use rg_slots::{Slot, Slots};
 use rg_step::Stepper;
 use std::alloc::Global;

@@ -12,9 +12,9 @@ use Rattle.rg_rules.proofs.Sources.{self_dot, dot, to, block, field_named, metho
 use Rattle.rg_cown.specs.Contents.{read_on}
 use Rattle.rg_plan.specs.declared.cown.Start.TheVariants.{New}
 use Rattle.rg_plan.specs.Plans.{Turn as Behaviour, PlanOf}
-use Rattle.rg_sched.specs.declared.phase.Phase.TheVariants as phase
-use Rattle.rg_sched.specs.Settings.{new_content, setting_of}
-use Rattle.rg_sched.specs.Events.{world_after}
+use Rattle.rg_sched_atomic.specs.declared.phase.Phase.TheVariants as phase
+use Rattle.rg_sched_atomic.specs.Settings.{new_content, setting_of}
+use Rattle.rg_sched_atomic.specs.Events.{world_after}
 use Rattle.rg_world_text.specs.Text.{behaviour_text, world_text}
 
 -- class N { v: int; }

@@ -8,10 +8,10 @@ use Rattle.rg_rules.specs.Runs.{Ran}
 use Rattle.rg_cown.specs.Cargo.{CargoList}
 use Rattle.rg_code.specs.Code.{Code}
 use Rattle.rg_plan.specs.Plans.{Turn as Behaviour, PlanOf}
-use Rattle.rg_sched.specs.declared.phase.Phase.{Phase}
-use Rattle.rg_sched.specs.Phases.{phase_by, phase_of, printed_by}
-use Rattle.rg_sched.specs.Settings.{setting_of}
-use Rattle.rg_sched.specs.Atomic.{World}
+use Rattle.rg_sched_atomic.specs.declared.phase.Phase.{Phase}
+use Rattle.rg_sched_atomic.specs.Phases.{phase_by, phase_of, printed_by}
+use Rattle.rg_sched_atomic.specs.Settings.{setting_of}
+use Rattle.rg_sched_atomic.specs.Atomic.{World}
 use Rattle.rg_world.specs.declared.progress.Progress.{Progress}
 use Rattle.rg_world.specs.declared.progress.Standing.{Standing}
 use Rattle.rg_world.specs.declared.progress.Standing.TheVariants as stands

@@ -4,10 +4,10 @@ use Rattle.rg_base.specs.declared.value.Val.{Val}
 use Rattle.rg_base.specs.Text.{text}
 use Rattle.rg_rules.specs.Runs.{Ran}
 use Rattle.rg_plan.specs.Plans.{Turn as Behaviour, PlanOf}
-use Rattle.rg_sched.specs.declared.phase.Phase.{Phase}
-use Rattle.rg_sched.specs.declared.phase.Phase.TheVariants as phase
-use Rattle.rg_sched.specs.Phases.{phase_of, printed_by}
-use Rattle.rg_sched.specs.Atomic.{Told}
+use Rattle.rg_sched_atomic.specs.declared.phase.Phase.{Phase}
+use Rattle.rg_sched_atomic.specs.declared.phase.Phase.TheVariants as phase
+use Rattle.rg_sched_atomic.specs.Phases.{phase_of, printed_by}
+use Rattle.rg_sched_atomic.specs.Atomic.{Told}
 use Rattle.rg_words.specs.Statuses.{trap_text}
 
 -- how a behaviour stands

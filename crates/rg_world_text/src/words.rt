@@ -2,12 +2,12 @@
 
 ghost use Rattle.std.specs.Prelude.{◌≡◌, ◌++◌, OnOk};
 ghost use Rattle.rg_base.specs.Text.{line_text, text};
-ghost use Rattle.rg_sched.specs.declared.phase.Phase.TheVariants as Phase;
+ghost use Rattle.rg_sched_atomic.specs.declared.phase.Phase.TheVariants as Phase;
 ghost use Rattle.rg_world_text.specs.Text as texts;
 
 use itoa::Buffer;
 use rg_base::{ByteList, Memory, Trap, Val, Vals};
-use rg_sched::Phase;
+use rg_sched_atomic::Phase;
 use rg_words::trap_words;
 
 /// Appends the text of a behaviour: how it stands, and the values that it printed.

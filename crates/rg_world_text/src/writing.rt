@@ -4,8 +4,8 @@ ghost use Rattle.std.specs.Prelude.{◌≡◌, ℕ, List, IfOk};
 ghost use Rattle.rg_tree.specs.Tree.{Tree};
 ghost use Rattle.rg_code.specs.Code.{Code};
 ghost use Rattle.rg_cown.specs.Cargo.{CargoList};
-ghost use Rattle.rg_sched.specs.Events.{world_after};
-ghost use Rattle.rg_sched.specs.Settings.{setting_of};
+ghost use Rattle.rg_sched_atomic.specs.Events.{world_after};
+ghost use Rattle.rg_sched_atomic.specs.Settings.{setting_of};
 ghost use Rattle.rg_world.specs.Worlds.{IsBehind};
 ghost use Rattle.rg_world_text.specs.Text as texts;
 

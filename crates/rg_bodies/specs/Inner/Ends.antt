@@ -2,7 +2,7 @@
 use Rattle.std.specs.Prelude.{ℕ, ◌-◌, nat_lt, ◌&&◌, Bool as Truth, false, true, List, Option, Some, None}
 use Rattle.rg_code.specs.declared.op.Op.{Op}
 use Rattle.rg_code.specs.declared.op.Op.TheVariants as i
-use Rattle.rg_verify.specs.Blocks.{sign}
+use Rattle.rg_verify_expressions.specs.Blocks.{sign}
 
 -- the end of a call with a result
 abbrev pub return_of : Op → Option (Unit {0})

@@ -1,7 +1,7 @@
 -- How a call ends whose schedule wasn't run to its end (docs/promises.md, "The headline").
 use Rattle.rg_base.specs.declared.fault.Code.TheVariants.{Schedule}
-use Rattle.rg_schedule.specs.declared.stop.SchedStop.{SchedStop}
-use Rattle.rg_schedule.specs.declared.stop.SchedStop.TheVariants as stop
+use Rattle.rg_sched.specs.declared.stop.SchedStop.{SchedStop}
+use Rattle.rg_sched.specs.declared.stop.SchedStop.TheVariants as stop
 use Rattle.rg_words.specs.declared.status.Status.{Status}
 use Rattle.rg_words.specs.declared.status.Status.TheVariants as status
 

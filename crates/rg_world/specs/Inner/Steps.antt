@@ -9,7 +9,7 @@ use Rattle.rg_rules.specs.Runs.{Running, Done, Stopped, Ran}
 use Rattle.rg_code.specs.Code.{Code}
 use Rattle.rg_held.specs.Shown.{ShowsHeld}
 use Rattle.rg_machine.specs.Parts.{machine_in}
-use Rattle.rg_sched.specs.Contents.{Content, put, left_by}
+use Rattle.rg_sched_atomic.specs.Contents.{Content, put, left_by}
 use Rattle.rg_slots.specs.declared.slot.Slot.{Slot}
 use Rattle.rg_slots.specs.declared.slot.Slot.TheVariants as slots
 use Rattle.rg_cown.specs.Cargo.{CargoList}

@@ -9,12 +9,12 @@ use Rattle.rg_tree.specs.Tree as tree
 use Rattle.rg_tree.specs.Rows.RowTrees.{right_of}
 use Rattle.rg_tree.specs.Rows.RowsExist.{IsRightIn}
 use Rattle.rg_code.specs.Code.{Code}
-use Rattle.rg_verify.specs.declared.signs.Close.{Close}
-use Rattle.rg_verify.specs.declared.signs.Open.{Open}
-use Rattle.rg_verify.specs.declared.signs.Walk.{Walk}
-use Rattle.rg_verify.specs.Raised.{Front, expression}
-use Rattle.rg_verify.specs.Statements.{Kind, value}
-use Rattle.rg_verify.specs.Blocks.{Told, cleared, window, path_in, close_by, expr_by, open_by, kind_by, kind_told, block_told}
+use Rattle.rg_verify_expressions.specs.declared.signs.Close.{Close}
+use Rattle.rg_verify_expressions.specs.declared.signs.Open.{Open}
+use Rattle.rg_verify_expressions.specs.declared.signs.Walk.{Walk}
+use Rattle.rg_verify_expressions.specs.Raised.{Front, expression}
+use Rattle.rg_verify_expressions.specs.Statements.{Kind, value}
+use Rattle.rg_verify_expressions.specs.Blocks.{Told, cleared, window, path_in, close_by, expr_by, open_by, kind_by, kind_told, block_told}
 use Rattle.rg_raise.specs.Fronts.{Spans, TakesFirst, MakesFronts}
 use Rattle.rg_raise.specs.Telling.{given, MakesAs, IsKindSaid}
 use Rattle.rg_raise.proofs.Rows.{means-one, means-there, names-none}

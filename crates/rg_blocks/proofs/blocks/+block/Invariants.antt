@@ -1,5 +1,5 @@
 use Rattle.std.proofs.Common.{◌+◌, ◌*◌, ◌-◌, length}
-use Rattle.rg_verify.specs.Blocks.{block_told}
+use Rattle.rg_verify_expressions.specs.Blocks.{block_told}
 use Rattle.rg_raise.specs.Telling.{given}
 use Rattle.rg_blocks.proofs.Going.{Looping}
 use Rattle.rg_blocks.proofs.blocks.+block.Given as goal

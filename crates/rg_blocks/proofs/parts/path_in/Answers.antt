@@ -1,4 +1,4 @@
-use Rattle.rg_verify.specs.Blocks.{path_in}
+use Rattle.rg_verify_expressions.specs.Blocks.{path_in}
 use Rattle.rg_raise.proofs.Rows.{means-there}
 use Rattle.rg_blocks.proofs.Put.{path-found, path-lost, no-path}
 use Rattle.rg_blocks.proofs.parts.path_in.Goals as goal

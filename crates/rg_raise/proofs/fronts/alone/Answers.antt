@@ -1,5 +1,5 @@
 use Rattle.std.proofs.Common.{◌≡◌, ◌<◌, ◌+◌, ℕ, List, [], ◌∷◌, drop, sym, ◌∙◌, ap, subst, length, arith}
-use Rattle.rg_verify.specs.declared.front.FrontRow.{FrontRow}
+use Rattle.rg_verify_expressions.specs.declared.front.FrontRow.{FrontRow}
 use Rattle.rg_raise.specs.Fronts.{rows_alone}
 use Rattle.rg_raise.proofs.FrontRows.{alone-next, alone-ends, alone-not, alone-on}
 use Rattle.rg_raise.proofs.fronts.alone.Goals as goal

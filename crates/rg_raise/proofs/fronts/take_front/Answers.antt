@@ -1,6 +1,6 @@
 use Rattle.std.proofs.Common.{List, sym, subst, Some, arith}
 use Rattle.std.proofs.lemmas.Bool.Decides.{nat_tests}
-use Rattle.rg_verify.specs.declared.front.FrontRow.{FrontRow}
+use Rattle.rg_verify_expressions.specs.declared.front.FrontRow.{FrontRow}
 use Rattle.rg_raise.specs.Fronts.{TakesFront}
 use Rattle.rg_raise.proofs.FrontRows.{takes-none, takes-front}
 use Rattle.rg_raise.proofs.fronts.take_front.Goals as goal

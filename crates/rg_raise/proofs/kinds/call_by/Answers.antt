@@ -1,7 +1,7 @@
 use Rattle.std.proofs.Common.{subst, length, Option}
-use Rattle.rg_verify.specs.declared.signs.Target.{Target}
-use Rattle.rg_verify.specs.Statements.{result_of}
-use Rattle.rg_verify.specs.Blocks.{call_by}
+use Rattle.rg_verify_expressions.specs.declared.signs.Target.{Target}
+use Rattle.rg_verify_expressions.specs.Statements.{result_of}
+use Rattle.rg_verify_expressions.specs.Blocks.{call_by}
 use Rattle.rg_raise.specs.Telling.{given, MakesAs, IsKindSaid}
 use Rattle.rg_raise.proofs.RightSides.{call-right}
 use Rattle.rg_raise.proofs.kinds.call_by.Goals as goal

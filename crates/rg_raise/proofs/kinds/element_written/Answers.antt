@@ -1,6 +1,6 @@
 use Rattle.std.proofs.Common.{sym}
 use Rattle.std.proofs.lemmas.Result.{err_from_is_err_and}
-use Rattle.rg_verify.specs.Blocks.{right_behind}
+use Rattle.rg_verify_expressions.specs.Blocks.{right_behind}
 use Rattle.rg_raise.specs.Telling.{given, IsRightSaid}
 use Rattle.rg_raise.proofs.Telling.{makes-some}
 use Rattle.rg_raise.proofs.KindParts.{element-refused, element-nowhere, element-unpaced, element-made}

@@ -1,6 +1,6 @@
 use Rattle.std.proofs.Common.{sym, ap, ◌∙◌, subst, Option, Some, length}
-use Rattle.rg_verify.specs.declared.signs.Behind.{Behind}
-use Rattle.rg_verify.specs.Blocks.{object_by}
+use Rattle.rg_verify_expressions.specs.declared.signs.Behind.{Behind}
+use Rattle.rg_verify_expressions.specs.Blocks.{object_by}
 use Rattle.rg_raise.specs.Telling.{given, MakesAs, IsKindSaid}
 use Rattle.rg_raise.proofs.kinds.object_by.Goals as goal
 

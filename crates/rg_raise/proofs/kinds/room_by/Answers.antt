@@ -1,9 +1,9 @@
 use Rattle.std.proofs.Common.{◌≡◌, ◌+◌, sym, subst, length, None, Err}
 use Rattle.std.proofs.lemmas.Result.{err_from_is_err_and}
 use Rattle.rg_tree.proofs.Adding.{extends-trans}
-use Rattle.rg_verify.specs.declared.refusal.Refusal.{Refusal}
-use Rattle.rg_verify.specs.Statements.{Kind}
-use Rattle.rg_verify.specs.Blocks.{Told, values_in, called}
+use Rattle.rg_verify_expressions.specs.declared.refusal.Refusal.{Refusal}
+use Rattle.rg_verify_expressions.specs.Statements.{Kind}
+use Rattle.rg_verify_expressions.specs.Blocks.{Told, values_in, called}
 use Rattle.rg_raise.specs.Fronts.{FindsExprs}
 use Rattle.rg_raise.specs.Telling.{given, MakesAs, IsCallSaid, IsKindSaid}
 use Rattle.rg_raise.proofs.Telling.{makes-some}

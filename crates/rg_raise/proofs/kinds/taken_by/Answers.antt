@@ -1,9 +1,9 @@
 use Rattle.std.proofs.Common.{◌≡◌, sym, ap, ◌∙◌, subst, length, Option, true, false, arith}
 use Rattle.std.proofs.lemmas.Bool.Decides.{nat_tests}
 use Rattle.rg_rules.specs.Capabilities.{is_iso}
-use Rattle.rg_verify.specs.declared.signs.Target.{Target}
-use Rattle.rg_verify.specs.Statements.{Kind, type_at}
-use Rattle.rg_verify.specs.Blocks.{taken_by}
+use Rattle.rg_verify_expressions.specs.declared.signs.Target.{Target}
+use Rattle.rg_verify_expressions.specs.Statements.{Kind, type_at}
+use Rattle.rg_verify_expressions.specs.Blocks.{taken_by}
 use Rattle.rg_raise.specs.Telling.{given, IsKindSaid}
 use Rattle.rg_raise.specs.Telling.{MakesOne}
 use Rattle.rg_raise.proofs.KindParts.{stored-next, stored-there, own-there}

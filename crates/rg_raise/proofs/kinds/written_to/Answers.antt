@@ -1,7 +1,7 @@
 use Rattle.std.proofs.Common.{sym}
 use Rattle.std.proofs.lemmas.Result.{err_from_is_err_and}
 use Rattle.rg_tree.proofs.Adding.{extends-trans, means-later}
-use Rattle.rg_verify.specs.Blocks.{right_behind}
+use Rattle.rg_verify_expressions.specs.Blocks.{right_behind}
 use Rattle.rg_raise.specs.Telling.{given, IsRightSaid}
 use Rattle.rg_raise.proofs.Telling.{makes-some}
 use Rattle.rg_raise.proofs.KindParts.{write-refused, write-nowhere, write-unpaced, write-made}

@@ -1,5 +1,5 @@
 use Rattle.std.proofs.lemmas.Result.{err_from_is_err_and}
-use Rattle.rg_verify.specs.Naming.{class_name}
+use Rattle.rg_verify_expressions.specs.Naming.{class_name}
 use Rattle.rg_raise.specs.Telling.{array_of}
 use Rattle.rg_raise.proofs.RightSides.{array-new, array-tmp, array-iso, array-unnamed}
 use Rattle.rg_raise.proofs.rights.array_row.Goals as goal

@@ -1,6 +1,6 @@
 use Rattle.std.proofs.Common.{sym, ap, ◌∙◌, List, ℕ, map, subst}
-use Rattle.rg_verify.specs.Raised.{named}
-use Rattle.rg_verify.specs.Blocks.{cleared}
+use Rattle.rg_verify_expressions.specs.Raised.{named}
+use Rattle.rg_verify_expressions.specs.Blocks.{cleared}
 use Rattle.rg_raise.specs.Fronts.{AreTrees}
 use Rattle.rg_raise.specs.Telling.{given}
 use Rattle.rg_raise.proofs.Telling.{called-uncleared, called-nothing, called-nobody, called-made}

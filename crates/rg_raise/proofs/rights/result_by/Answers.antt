@@ -1,6 +1,6 @@
 use Rattle.std.proofs.Common.{sym}
 use Rattle.std.proofs.lemmas.Result.{err_from_is_err_and}
-use Rattle.rg_verify.specs.Blocks.{values_in, result_by}
+use Rattle.rg_verify_expressions.specs.Blocks.{values_in, result_by}
 use Rattle.rg_raise.specs.Telling.{given, IsRightSaid}
 use Rattle.rg_raise.proofs.FrontRows.{exprs-refuse}
 use Rattle.rg_raise.proofs.RightSides.{result-unknown, result-unroomed, result-refused, result-made}

@@ -1,7 +1,7 @@
 use Rattle.std.proofs.Common.{◌≡◌, sym, ap, ◌∙◌, subst, List, [], ◌∷◌, length, arith}
 use Rattle.std.proofs.lemmas.Bool.Decides.{nat_tests}
-use Rattle.rg_verify.specs.Raised.{Front, expression}
-use Rattle.rg_verify.specs.Blocks.{right_behind}
+use Rattle.rg_verify_expressions.specs.Raised.{Front, expression}
+use Rattle.rg_verify_expressions.specs.Blocks.{right_behind}
 use Rattle.rg_raise.specs.Uses.{used_in}
 use Rattle.rg_raise.specs.Telling.{given, MakesAs, IsRightSaid}
 use Rattle.rg_raise.proofs.FrontRows.{none-left, some-left, taken-none, taken-expression, taken-object, taken-place}

@@ -1,7 +1,7 @@
 use Rattle.std.proofs.Common.{sym, subst, Option}
 use Rattle.std.proofs.lemmas.Result.{err_from_is_err_and}
-use Rattle.rg_verify.specs.declared.signs.Walk.{Walk}
-use Rattle.rg_verify.specs.Blocks.{right_by}
+use Rattle.rg_verify_expressions.specs.declared.signs.Walk.{Walk}
+use Rattle.rg_verify_expressions.specs.Blocks.{right_by}
 use Rattle.rg_raise.specs.Telling.{given, MakesAs, IsRightSaid}
 use Rattle.rg_raise.proofs.RightSides.{array-refused, array-made}
 use Rattle.rg_raise.proofs.rights.right_by.Goals as goal

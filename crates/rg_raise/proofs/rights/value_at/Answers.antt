@@ -1,5 +1,5 @@
 use Rattle.std.proofs.Common.{sym, ◌∙◌, ap, List, ℕ}
-use Rattle.rg_verify.specs.Blocks.{cleared}
+use Rattle.rg_verify_expressions.specs.Blocks.{cleared}
 use Rattle.rg_raise.specs.Telling.{given}
 use Rattle.rg_raise.proofs.RightSides.{right-uncleared, right-value}
 use Rattle.rg_raise.proofs.rights.value_at.Goals as goal

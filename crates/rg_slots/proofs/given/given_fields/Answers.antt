@@ -3,7 +3,7 @@ use Rattle.std.specs.Vec.Iter.{into_iter_items}
 use Rattle.rg_tree.specs.Rows.RowTrees.{member_at}
 use Rattle.rg_rules.specs.Types.{field_member}
 use Rattle.rg_opening.specs.declared.given.Given.TheVariants.{Start}
-use Rattle.rg_sched.specs.Contents.{givens}
+use Rattle.rg_sched_atomic.specs.Contents.{givens}
 use Rattle.rg_slots.specs.Slots.{content_in}
 use Rattle.rg_slots.proofs.Taken.{next-is}
 use Rattle.rg_slots.proofs.ByFields.{members-field, members-method, given-iso, given-other}

@@ -2,7 +2,7 @@ use Rattle.std.proofs.Common.{◌≡◌, ◌++◌, drop, map, filter_map}
 use Rattle.std.specs.Vec.Iter.{into_iter_items}
 use Rattle.rg_tree.specs.Rows.RowTrees.{classes_of, member_at}
 use Rattle.rg_rules.specs.Types.{fields_of, field_member}
-use Rattle.rg_sched.specs.Contents.{givens}
+use Rattle.rg_sched_atomic.specs.Contents.{givens}
 use Rattle.rg_slots.specs.Slots.{content_in}
 use Rattle.rg_slots.proofs.given.given_fields.Given as goal
 

@@ -1,7 +1,7 @@
 use Rattle.std.proofs.Common.{sym, ◌∙◌, subst, arith}
 use Rattle.rg_tree.specs.Rows.RowTrees.{program_of}
 use Rattle.rg_rules.specs.Types.{fields_of}
-use Rattle.rg_sched.specs.Events.{one_more}
+use Rattle.rg_sched_atomic.specs.Events.{one_more}
 use Rattle.rg_world.specs.Inner.Steps.{CameTo}
 use Rattle.rg_world.proofs.advance.advance.Goals as goal
 

@@ -1,8 +1,8 @@
 use Rattle.std.proofs.Common.{refl, sym, ap, ◌∙◌, map}
 use Rattle.rg_tree.specs.Rows.RowTrees.{program_of}
 use Rattle.rg_rules.specs.Types.{fields_of}
-use Rattle.rg_sched.specs.Contents.{put, left_by}
-use Rattle.rg_sched.specs.Events.{one_more}
+use Rattle.rg_sched_atomic.specs.Contents.{put, left_by}
+use Rattle.rg_sched_atomic.specs.Events.{one_more}
 use Rattle.rg_slots.specs.Slots.{content_in}
 use Rattle.rg_world.proofs.Events.{put-none}
 use Rattle.rg_world.proofs.Shown.{runs-of}

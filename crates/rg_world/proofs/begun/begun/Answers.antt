@@ -1,7 +1,7 @@
 use Rattle.std.proofs.Common.{◌≡◌, ap, ◌∙◌, map}
 use Rattle.rg_tree.specs.Rows.RowTrees.{classes_of, program_of}
 use Rattle.rg_rules.specs.Types.{fields_of}
-use Rattle.rg_sched.specs.Contents.{contents_at, givens}
+use Rattle.rg_sched_atomic.specs.Contents.{contents_at, givens}
 use Rattle.rg_slots.specs.Slots.{content_in}
 use Rattle.rg_world.proofs.Opened.{begins-as, begins-same, may-start}
 use Rattle.rg_world.proofs.begun.begun.Goals as goal

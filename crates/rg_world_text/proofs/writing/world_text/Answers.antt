@@ -1,6 +1,6 @@
 use Rattle.std.proofs.Common.{◌∙◌, ap, ◌++◌, arith}
-use Rattle.rg_sched.specs.Settings.{setting_of}
-use Rattle.rg_sched.specs.Events.{world_after}
+use Rattle.rg_sched_atomic.specs.Settings.{setting_of}
+use Rattle.rg_sched_atomic.specs.Events.{world_after}
 use Rattle.rg_world_text.specs.Text.{behaviour_text}
 use Rattle.rg_world_text.proofs.Told.{below, next, end}
 use Rattle.rg_world_text.proofs.writing.world_text.Goals as goal

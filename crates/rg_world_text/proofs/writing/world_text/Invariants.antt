@@ -2,8 +2,8 @@ use Rattle.std.proofs.Common.{◌≡◌, ℕ, List, ◌++◌, drop}
 use Rattle.rg_tree.specs.Tree.{Tree}
 use Rattle.rg_cown.specs.Cargo.{CargoList}
 use Rattle.rg_code.specs.Code.{Code}
-use Rattle.rg_sched.specs.Settings.{setting_of}
-use Rattle.rg_sched.specs.Events.{world_after}
+use Rattle.rg_sched_atomic.specs.Settings.{setting_of}
+use Rattle.rg_sched_atomic.specs.Events.{world_after}
 use Rattle.rg_world.specs.Worlds.{IsBehind}
 use Rattle.rg_world_text.specs.Text.{world_text, text_from}
 use Rattle.rg_world_text.proofs.writing.world_text.Given as goal

@@ -3,7 +3,7 @@ use Rattle.std.specs.Vec.Iter.{into_iter_items}
 use Rattle.std.proofs.lemmas.Option.{slice_get_within, get_or_from_slice_get}
 use Rattle.rg_tree.specs.Rows.RowTrees.{classes_of}
 use Rattle.rg_plan.specs.declared.cown.Cown.{Cown}
-use Rattle.rg_sched.specs.Settings.{start_of}
+use Rattle.rg_sched_atomic.specs.Settings.{start_of}
 use Rattle.rg_slots.proofs.Taken.{next-is}
 use Rattle.rg_slots.proofs.ByFields.{opens-next, opens-short}
 use Rattle.rg_slots.proofs.slots.Slots.open.Goals.{in-New+in_ok-content-in-New, in-Image}

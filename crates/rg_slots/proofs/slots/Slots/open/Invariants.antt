@@ -1,8 +1,8 @@
 use Rattle.std.proofs.Common.{◌≡◌, ◌++◌, drop, map}
 use Rattle.std.specs.Vec.Iter.{into_iter_items}
 use Rattle.rg_tree.specs.Rows.RowTrees.{classes_of}
-use Rattle.rg_sched.specs.Contents.{Held}
-use Rattle.rg_sched.specs.Settings.{start_contents}
+use Rattle.rg_sched_atomic.specs.Contents.{Held}
+use Rattle.rg_sched_atomic.specs.Settings.{start_contents}
 use Rattle.rg_slots.specs.Slots.{content_in}
 use Rattle.rg_slots.proofs.slots.Slots.open.Given as goal
 

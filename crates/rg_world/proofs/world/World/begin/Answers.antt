@@ -4,8 +4,8 @@ use Rattle.rg_names.specs.Book.{Known}
 use Rattle.rg_rules.specs.Acceptance.{Accepted}
 use Rattle.rg_world.specs.Inner.Steps.{waiting}
 use Rattle.rg_plan.specs.declared.cown.Cown.{Cown}
-use Rattle.rg_sched.specs.Contents.{Held}
-use Rattle.rg_sched.specs.Settings.{start_contents}
+use Rattle.rg_sched_atomic.specs.Contents.{Held}
+use Rattle.rg_sched_atomic.specs.Settings.{start_contents}
 use Rattle.rg_world.proofs.First.{cowns-there, begins-behind}
 use Rattle.rg_world.proofs.world.World.begin.Goals as goal
 

@@ -1,7 +1,7 @@
 use Rattle.std.proofs.Common.{arith}
 use Rattle.std.specs.Prelude.{slice_get}
 use Rattle.rg_tree.specs.Rows.RowTrees.{program_of}
-use Rattle.rg_sched.specs.declared.phase.Phase.TheVariants as phase
+use Rattle.rg_sched_atomic.specs.declared.phase.Phase.TheVariants as phase
 use Rattle.rg_world.proofs.Behind.{ended-on}
 use Rattle.rg_world.proofs.First.{many-behind, there-is}
 use Rattle.rg_world.proofs.Shown.{phase-waits, phase-runs, phase-ends}

@@ -3,10 +3,10 @@ use Rattle.rg_tree.specs.Rows.RowTrees.{classes_of, program_of}
 use Rattle.rg_names.specs.Book.{Known}
 use Rattle.rg_rules.specs.Types.{fields_of}
 use Rattle.rg_contents.specs.Rest.{IsReady}
-use Rattle.rg_sched.specs.Contents.{contents_at, givens}
+use Rattle.rg_sched_atomic.specs.Contents.{contents_at, givens}
 use Rattle.rg_world.specs.Worlds.{WorldIn, IsBehind}
 use Rattle.std.proofs.lemmas.Option.{get_or_from_slice_get}
-use Rattle.rg_sched.specs.Behaviours.{run_of}
+use Rattle.rg_sched_atomic.specs.Behaviours.{run_of}
 use Rattle.rg_world.specs.declared.progress.Progress.{Progress}
 use Rattle.rg_world.specs.declared.progress.Standing.TheVariants as stands
 use Rattle.rg_world.specs.Standing.{RunsAs}

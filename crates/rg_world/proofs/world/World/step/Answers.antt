@@ -5,7 +5,7 @@ use Rattle.std.proofs.lemmas.Option.{get_or_from_slice_get}
 use Rattle.rg_tree.specs.Rows.RowTrees.{classes_of, program_of}
 use Rattle.rg_names.specs.Book.{Known}
 use Rattle.rg_world.specs.Worlds.{WorldIn, IsBehind}
-use Rattle.rg_sched.specs.Contents.{put}
+use Rattle.rg_sched_atomic.specs.Contents.{put}
 use Rattle.rg_slots.specs.declared.slot.Slot.{Slot}
 use Rattle.rg_slots.specs.Slots.{content_in}
 use Rattle.rg_world.specs.Inner.Steps.{contents_with, is_running}

@@ -1,9 +1,0 @@
-use Rattle.rg_sched.specs.Events.{world_after}
-use Rattle.rg_sched.proofs.Worlds.{world_stands}
-use Rattle.rg_sched.proofs.Alike.{all_alike}
-use Rattle.rg_sched.proofs.laws.ended_alike.Goals as goal
-
-pub returns : goal.returns
-returns c = λ classes s one other twice p q.
-    all_alike classes s (world_after classes s one) (world_after classes s other)
-    (world_stands classes s one twice) (world_stands classes s other twice) p q

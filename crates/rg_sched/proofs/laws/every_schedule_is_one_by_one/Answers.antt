@@ -1,5 +1,0 @@
-use Rattle.rg_sched.proofs.Worlds.{world_stands}
-use Rattle.rg_sched.proofs.laws.every_schedule_is_one_by_one.Goals as goal
-
-pub returns : goal.returns
-returns c = λ classes s schedule twice. (world_stands classes s schedule twice).world

@@ -1,8 +1,0 @@
-use Rattle.rg_sched.specs.Events.{world_after}
-use Rattle.rg_sched.proofs.Worlds.{world_stands}
-use Rattle.rg_sched.proofs.Fronts.{fronts_are_enough}
-use Rattle.rg_sched.proofs.laws.fronts_are_enough.Goals as goal
-
-pub returns : goal.returns
-returns c = λ classes s schedule i b twice there.
-    fronts_are_enough classes s (world_after classes s schedule) i b (world_stands classes s schedule twice) there

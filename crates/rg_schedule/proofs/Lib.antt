@@ -1,2 +1,0 @@
--- Lemmas on schedules that are run.
-mod Numbered

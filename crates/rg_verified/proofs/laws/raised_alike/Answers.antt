@@ -1,7 +1,0 @@
--- Two programs that raise a module are both told by it.
-use Rattle.rg_raised.specs.Told.{program_told}
-use Rattle.rg_verified.proofs.Alike.{raised-alike}
-use Rattle.rg_verified.proofs.laws.raised_alike.Goals as goal
-
-pub returns : goal.returns
-returns c = raised-alike program_told c.raised_are_told.ensures

@@ -1,2 +1,0 @@
--- Joins the parts of the verifier (docs/architecture.md, "Modules").
-pub mod Verdicts

@@ -1,5 +1,0 @@
-use Rattle.rg_verify.proofs.ToldStands.{blocks-are-told}
-use Rattle.rg_verify.proofs.laws.blocks_are_told.Goals as goal
-
-pub returns : goal.returns
-returns c = blocks-are-told

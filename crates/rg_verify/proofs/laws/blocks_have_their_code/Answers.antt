@@ -1,5 +1,0 @@
-use Rattle.rg_verify.proofs.NamedBlocks.{blocks-have-their-code}
-use Rattle.rg_verify.proofs.laws.blocks_have_their_code.Goals as goal
-
-pub returns : goal.returns
-returns c = blocks-have-their-code

@@ -1,5 +1,0 @@
-use Rattle.rg_verify.proofs.BlocksAgain.{blocks-stand-once}
-use Rattle.rg_verify.proofs.laws.blocks_stand_once.Goals as goal
-
-pub returns : goal.returns
-returns c = blocks-stand-once

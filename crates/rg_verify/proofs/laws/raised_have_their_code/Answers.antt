@@ -1,5 +1,0 @@
-use Rattle.rg_verify.proofs.Named.{have-their-code}
-use Rattle.rg_verify.proofs.laws.raised_have_their_code.Goals as goal
-
-pub returns : goal.returns
-returns c = have-their-code
