@@ -8,11 +8,14 @@ use rg_code::{CodeList, Op};
 use rg_step::Stepper;
 use std::alloc::Global;
 
-/// A frame: its first slot among all, and the address at which its code begins.
+/// A frame: its first slot among all, the address at which its code begins, that of the step that
+/// called it, and how many windows were open then.
 #[derive(Clone, Copy)]
 struct Row {
     first: usize,
     entry: usize,
+    caller: usize,
+    windows: usize,
 }
 
 /// The values in the slots of all frames, main's first.
@@ -117,6 +120,8 @@ impl Shadow {
             let row = Row {
                 first: frames.first(),
                 entry: stepper.at(),
+                caller: at,
+                windows: frames.open_count(),
             };
             if self.rows.push(row).is_err() {
                 return Err(Memory);
@@ -156,12 +161,19 @@ impl Shadow {
         }
     }
 
-    /// Appends all frames, by the addresses at which they begin, and all values but nil.
+    /// Appends all frames, and all values but nil.
     pub fn tell_all(&self, alloc: Global, out: &mut ByteList) -> Result<(), Memory> {
         let (mut entries, mut told) = (Items::new(alloc), Items::new(alloc));
         for frame in 0..self.rows.len() {
             if let Some(row) = self.rows.get(frame) {
-                entries.add(row.entry as u64)?;
+                let text = entries.next()?;
+                text.push(b'[')?;
+                number(text, row.entry as u64)?;
+                text.push(b',')?;
+                number(text, row.caller as u64)?;
+                text.push(b',')?;
+                number(text, row.windows as u64)?;
+                text.push(b']')?;
                 for place in row.first..self.end_of(frame) {
                     let v = self.vals.get(place).copied().unwrap_or(Val::Nil);
                     if v != Val::Nil {
