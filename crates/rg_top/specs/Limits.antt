@@ -8,8 +8,7 @@ use Rattle.rg_base.specs.declared.limits.TheConstants.{MOST_STEPS, USUAL_STEPS}
 use Rattle.rg_make.specs.declared.whole.TheConstants.{MOST_SIZE}
 use Rattle.rg_plan.specs.declared.limits.TheConstants.{COWNS, BEHAVIOURS, NUMBER_DIGITS}
 use Rattle.rg_sched.specs.declared.limits.TheConstants.{SCHEDULE}
-use Rattle.rg_words.specs.declared.limits.TheConstants.{MODULE_BYTES, MOST_NUMBERS}
-use Rattle.rg_words.specs.declared.words.TheConstants.{MOST_COWN, MOST_EVERY, USUAL_EVERY}
+use Rattle.rg_words.specs.declared.limits.TheConstants.{MODULE_BYTES, MOST_COWN, MOST_EVERY, MOST_NUMBERS, USUAL_EVERY}
 use Rattle.rg_loading.specs.declared.limits.TheConstants.{IMAGE_BYTES}
 
 pub record LimitsAre : Type 0 where
