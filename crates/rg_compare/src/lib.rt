@@ -5,6 +5,7 @@
 //! crate is private.
 #![tactic(auto)]
 
+mod code;
 mod operands;
 mod rows;
 mod types;
