@@ -1,6 +1,6 @@
 use Rattle.std.proofs.Common.{◌≡◌, ◌<◌, ℕ, length, Option, IfOk, subst}
 use Rattle.std.specs.Prelude.{IfSome}
-use Rattle.rg_slots.specs.Slots.{content_in}
+use Rattle.rg_slots.specs.Slots.{content_seen}
 use Rattle.rg_words.specs.Answers.{Answer}
 use Rattle.rg_when.specs.Inner.Puts.{text_answer}
 use Rattle.rg_when.proofs.Told.{text-answers, kept-answers}
@@ -22,4 +22,4 @@ pub returns : goal.returns
 returns c = λ t code images numbers h.
     subst (λ (a : Answer). IfOk c.kept_text.result (λ text. text_answer text c.args.behind.now.taken ≡ a))
     (kept-answers c.plans_are_settings.ensures c.every_schedule_is_one_by_one.ensures t code c.args.plan.now images numbers c.args.behind.now c.args.keep
-    c.in-Some.cown (content_in c.content.result.now) h c.in-Some.is c.content.ensures) (c.kept_text.ensures c.args.behind.now.taken)
+    c.in-Some.cown (content_seen c.content.result) h c.in-Some.is c.content.ensures) (c.kept_text.ensures c.args.behind.now.taken)
