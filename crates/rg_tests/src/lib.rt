@@ -20,6 +20,10 @@ mod numbers;
 #[cfg(test)]
 mod pacers;
 #[cfg(test)]
+mod paths;
+#[cfg(test)]
+mod plain;
+#[cfg(test)]
 mod programs;
 #[cfg(test)]
 mod raised;
