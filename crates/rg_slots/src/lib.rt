@@ -10,7 +10,7 @@ mod opening;
 mod slot;
 mod slots;
 
-pub use fields::{is_iso, opening_value};
+pub use fields::is_iso;
 pub use given::given_fields;
 pub use slot::{Content, Slot};
 pub use slots::Slots;

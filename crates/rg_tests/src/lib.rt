@@ -12,6 +12,8 @@ mod generated;
 #[cfg(test)]
 mod images;
 #[cfg(test)]
+mod judged;
+#[cfg(test)]
 mod lists;
 #[cfg(test)]
 mod modules;
