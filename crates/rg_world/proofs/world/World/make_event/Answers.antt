@@ -5,7 +5,7 @@ use Rattle.rg_sched_atomic.specs.declared.phase.Phase.TheVariants as phase
 use Rattle.rg_world.proofs.Behind.{ended-on}
 use Rattle.rg_world.proofs.First.{many-behind, there-is}
 use Rattle.rg_world.proofs.Shown.{phase-waits, phase-runs, phase-ends}
-use Rattle.rg_world.proofs.world.World.event.Goals as goal
+use Rattle.rg_world.proofs.world.World.make_event.Goals as goal
 
 pub state-requires : goal.state-requires
 state-requires g c =
