@@ -1,4 +1,5 @@
-//! The pacer (docs/embedding.md, "A pacer of one's own").
+//! A pacer of one's own (docs/embedding.md, "A pacer of one's own"): a region may grow by a half over
+//! what its last collection left.
 
 ghost use Rattle.std.specs.Prelude.{◌≡◌};
 ghost use Rattle.rg_pace.specs.Asked.{never_asked};
