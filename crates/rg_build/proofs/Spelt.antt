@@ -20,6 +20,7 @@ use Rattle.rg_spell.specs.declared.rows.Head.{Head}
 use Rattle.rg_spell.specs.Spelling.{FitsOp, FitsMap, FitsRow, FitsShape}
 use Rattle.rg_module.specs.Parts.{Parts, filled_up, with_code}
 use Rattle.rg_module.specs.Follows.{body, entries}
+use Rattle.rg_module.proofs.Counts.{entries-length}
 use Rattle.rg_module.specs.Spelling.{IsSpelt}
 use Rattle.rg_build.specs.Maps.{maps_of}
 use Rattle.rg_build.specs.ModuleOf.{map_here, maps_behind, laid, shapes_of, heads_of, module_of}
@@ -84,10 +85,6 @@ rows-fit (o ∷ os) maps h short =
     )
 
 -- a method has a head
-entries-length : (at : ℕ) (hs : List Head) (ops : List Op) → length (entries at hs ops) ≡ length hs
-entries-length at [] ops = refl
-entries-length at (h ∷ hs) ops = ap suc (entries-length (at + length (body ops)) hs (drop (length (body ops)) ops))
-
 pub heads-length : (t : Tree) → Accepted t → length (heads_of t.classes) ≡ length (lowered t).entries
 heads-length t a =
     let ops = (lowered t).ops in

@@ -1,13 +1,13 @@
 //! A program of one's own that runs a program of the language (docs/embedding.md, "The top call"):
-//! its text stands here, its notes are taken into memory, and its pacers are those of another
-//! crate. Then it runs it once more, for some steps, and tells the objects that are held behind
-//! them.
+//! its text stands here, its notes are taken into memory, and its pacers are its own. Then it runs
+//! it once more, for some steps, and tells the objects that are held behind them.
 #![tactic(auto)]
 
+mod headroom;
 mod shown;
 
+use crate::headroom::Headroom;
 use crate::shown::tell_objects;
-use rg_headroom::Headroom;
 use rg_io::{MemFiles, MemSink, MemSource, StdSink};
 use rg_run::Machine;
 use rg_top::reggio;
