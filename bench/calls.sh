@@ -214,10 +214,15 @@ def told(text, v, at, of, depth=0, args=()):
             k = part_terms.index(v) - 1
             there, items = defined(part_terms[0], at, of)
             tags = [spoken(t) for t in part_terms[1:]]
-            for item in items: add(in_item(item, k, tags, there, depth))
+            for item in items: add(in_item(item, k, tags, there, depth, any(names_case(it, k) for it in items)))
     return out
 
-def in_item(item, k, tags, at, depth):
+def names_case(item, k):
+    """Whether a row of a definition names an answer at a place."""
+    patterns = terms(flat(item).partition(" = ")[0])[1:]
+    return k < len(patterns) and " : " not in item.partition("=")[0] and case_of(patterns[k])[0] is not None
+
+def in_item(item, k, tags, at, depth, is_row=False):
     """What an item of a definition tells of its argument at a place."""
     item = flat(re.sub(r"(?m)^ +pub [^\s:]+ : ", "; ", item))
     if re.match(r"(?:\w+ )*record ", item):
@@ -239,6 +244,8 @@ def in_item(item, k, tags, at, depth):
         if patterns[k] in ("true", "false"): return {patterns[k]: said | WHEN}
         return told_case(patterns[k], body, said, at, depth)
     more = told(body, patterns[k], at, None, depth + 1, tuple(known))
+    # a row for all answers that no row before it names
+    if is_row and said: more = {**more, "all": more.get("all", frozenset())}
     return {con: inner & WHEN | said for con, inner in more.items()}
 
 def bare(text):
@@ -329,7 +336,9 @@ class Call:
             good = {case_of(terms(i.partition(" = ")[0])[1])[0] for i in map(flat, items)
                     if i.endswith("= " + m[1][2:].lower()) and len(terms(i.partition(" = ")[0])) > 1}
             return False, change if refusal in good else frozenset()
-        if m := re.match(r"(Exactly|ExactlyWhere) .*", body):
+        if m := re.match(r"(?:Exactly|ExactlyWhere) .* result (\w+)$", body):
+            return refusal in self.passing(text, m[1]), frozenset()
+        if re.match(r"(Exactly|ExactlyWhere) .*", body):
             return bool(re.search(rf"Status\.{refusal}\b", text)), frozenset()
         if re.match(r"result ≡ (?!Err|Ok|Some|None|true|false)", body) or body.endswith((" ≡ Some result", " ≡ result")):
             return True, change
@@ -353,6 +362,19 @@ class Call:
         outside = "" if "result" in around or not tells else " ".join(t for t in around if not has(t, "result"))
         around = frozenset(a for a in change if f"{a}.new" in outside)
         return bool(said & WHEN) and terms(body)[0] not in LEFT, said & frozenset(self.written) | around
+
+    def passing(self, text, name):
+        """The answers that pass the tests on a name that stand in front of a fact, or are the fields of a record in front of it."""
+        front, tests = " → ".join(text.split(" → ")[:-1]), set()
+        for record in re.findall(rf"([A-Z]\w+) (?:[^→]* )?{name}(?= →|$)", front):
+            at, items = defined(record, None, self.imports)
+            for item in items: tests |= {(of, at) for of in re.findall(r"(?m): (\w+) \w+ ≡ true$", item)}
+        tests |= {(of, None) for of in re.findall(rf"(\w+) {name} ≡ true", front)}
+        passed = {*self.refuses}
+        for of, at in tests:
+            rows = [flat(i) for i in defined(of, at, None if at else self.imports)[1] if " = " in i]
+            passed &= {case_of(terms(i.partition(" = ")[0])[1])[0] for i in rows if i.endswith("= true")}
+        return passed if tests else set()
 
     def table(self):
         """For each refusal the labels that say when, those that say what holds behind, and the arguments of which none says that."""
