@@ -3,11 +3,10 @@ use Rattle.rg_code.specs.Code.{Code}
 use Rattle.rg_module.proofs.Counts.{few-openings, few-entries}
 use Rattle.rg_compare.proofs.whole.same.Goals as goal
 
-pub same_code-requires-classes : goal.same_code-requires-classes
-same_code-requires-classes c = ?
+pub same_code-requires-clause-classes : goal.same_code-requires-clause-classes
+same_code-requires-clause-classes c =
+    subst (λ (d : Code). length d.openings < 2 ^ 32) (sym c.code.ensures) (few-openings c.args.one.now c.requires)
 
-pub same_code-requires-methods : goal.same_code-requires-methods
-same_code-requires-methods c = ?
-
-pub returns : goal.returns
-returns c = ?
+pub same_code-requires-clause-methods : goal.same_code-requires-clause-methods
+same_code-requires-clause-methods c =
+    subst (λ (d : Code). length d.entries < 2 ^ 32) (sym c.code.ensures) (few-entries c.args.one.now c.requires)
