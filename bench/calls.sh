@@ -210,6 +210,8 @@ def told(text, v, at, of, depth=0, args=()):
                         elif con or other[0] in ("true", "false"): add({con or other[0]: every})
                         else: add({"all": every})
                     elif one == ["Some", v]: add({"all": every})
+        # what was taken, by a function of the answer, is told of each answer
+        if part_terms[:1] == ["Appends"] and speaks(part_terms[-1], v): add({"all": WHEN | spoken(part)})
         if v in part_terms[1:] and "≡" not in part_terms and not part_terms[0][0].islower() and depth < 7:
             k = part_terms.index(v) - 1
             there, items = defined(part_terms[0], at, of)
@@ -303,6 +305,20 @@ class Call:
 
     def takes_memory(self): return bool(MEMORY & {*self.refuses})
 
+    def passing(self, test, truth):
+        """The answers of which a test is true, or false."""
+        rows = [i for i in map(flat, defined(test, None, self.imports)[1]) if i.endswith("= " + truth)]
+        return {case_of(terms(row.partition(" = ")[0])[1])[0] for row in rows if len(terms(row.partition(" = ")[0])) > 1}
+
+    def named(self, text):
+        """The statuses that a clause names, or those of a variable that pass the tests in front of it."""
+        of = re.match(r"\((\w+) : Status\)", text)
+        if not of: return {*re.findall(r"Status\.(\w+)", text)}
+        tests, front = rf"\b(\w+) {of[1]} ≡ true", text.rpartition(" → ")[0]
+        # (a record of tests has its own variable, of the same name)
+        records = [i for r in re.findall(rf"\b([A-Z]\w*) [^→]* {of[1]}$", front) for i in map(flat, defined(r, None, self.imports)[1])]
+        return set.intersection(*(self.passing(it, "true") for it in re.findall(tests, " ".join([front, *records]))))
+
     def speaks(self, refusal, text):
         """Whether a clause says when a refusal comes, and of which written arguments it says what holds behind it."""
         change = frozenset(a for a in self.written if f"{a}.new" in text and f"{a}.old" in text)
@@ -332,14 +348,9 @@ class Call:
         if re.match(r"result ≢ (\w+\.)?(\w+) →", body):
             return False, frozenset() if body.split(" →")[0].endswith(refusal) else change
         if m := re.match(r"(OnTrue|OnFalse) \((\w+) result\) ", body):
-            there, items = defined(m[2], None, self.imports)
-            good = {case_of(terms(i.partition(" = ")[0])[1])[0] for i in map(flat, items)
-                    if i.endswith("= " + m[1][2:].lower()) and len(terms(i.partition(" = ")[0])) > 1}
-            return False, change if refusal in good else frozenset()
-        if m := re.match(r"(?:Exactly|ExactlyWhere) .* result (\w+)$", body):
-            return refusal in self.passing(text, m[1]), frozenset()
-        if re.match(r"(Exactly|ExactlyWhere) .*", body):
-            return bool(re.search(rf"Status\.{refusal}\b", text)), frozenset()
+            return False, change if refusal in self.passing(m[2], m[1][2:].lower()) else frozenset()
+        if m := re.match(r"(Exactly|ExactlyWhere) .*", body):
+            return refusal in self.named(text), frozenset()
         if re.match(r"result ≡ (?!Err|Ok|Some|None|true|false)", body) or body.endswith((" ≡ Some result", " ≡ result")):
             return True, change
         # an equation with an image of the answer that keeps each refusal tells of each answer
@@ -362,19 +373,6 @@ class Call:
         outside = "" if "result" in around or not tells else " ".join(t for t in around if not has(t, "result"))
         around = frozenset(a for a in change if f"{a}.new" in outside)
         return bool(said & WHEN) and terms(body)[0] not in LEFT, said & frozenset(self.written) | around
-
-    def passing(self, text, name):
-        """The answers that pass the tests on a name that stand in front of a fact, or are the fields of a record in front of it."""
-        front, tests = " → ".join(text.split(" → ")[:-1]), set()
-        for record in re.findall(rf"([A-Z]\w+) (?:[^→]* )?{name}(?= →|$)", front):
-            at, items = defined(record, None, self.imports)
-            for item in items: tests |= {(of, at) for of in re.findall(r"(?m): (\w+) \w+ ≡ true$", item)}
-        tests |= {(of, None) for of in re.findall(rf"(\w+) {name} ≡ true", front)}
-        passed = {*self.refuses}
-        for of, at in tests:
-            rows = [flat(i) for i in defined(of, at, None if at else self.imports)[1] if " = " in i]
-            passed &= {case_of(terms(i.partition(" = ")[0])[1])[0] for i in rows if i.endswith("= true")}
-        return passed if tests else set()
 
     def table(self):
         """For each refusal the labels that say when, those that say what holds behind, and the arguments of which none says that."""
