@@ -74,6 +74,12 @@ def looked_at(name, size, words):
     return size + ITEMS
 
 
+def version(words):
+    """The first number with a point in what a runtime says of itself."""
+    said = subprocess.run(words, stdout=subprocess.PIPE, stderr=subprocess.STDOUT).stdout.decode()
+    return found[0] if (found := re.search(r"\d+(\.\d+)+", said)) else "of no version"
+
+
 def machine():
     cpu = next((line.split(":")[1].strip() for line in open("/proc/cpuinfo") if line.startswith("model name")), platform.machine())
     return f"{os.cpu_count()} processors, {cpu}"
@@ -82,6 +88,8 @@ def machine():
 if shutil.which("guile"):
     shutil.copy(sources / "server.scm", work)
 print(f"# {datetime.date.today()}, {machine()}, load {os.getloadavg()[0]:.1f}; the least of {turns} runs' longest pauses")
+versions = {"Lua": ["lua5.4", "-v"], "OCaml": ["ocamlopt", "-version"], "Guile": ["guile", "--version"]}
+print("# " + ", ".join(f"{name} {version(words)}" for name, words in versions.items() if shutil.which(words[0])))
 print("# runtime\tsize\tlongest_us\tmedian_us\tlooked_at", flush=True)
 wanted = {}
 for size in SIZES:
