@@ -27,10 +27,10 @@ fn spelt(alloc: Global, source: &[u8]) -> Result<Program, Stop>
     parse(alloc, source, &found)
 }
 
-/// The accepted program of a file; None where it can't be read, isn't accepted, or no memory was
-/// found.
-pub fn accepted_in(rt: &(impl Files + AllocGlobal), name: &str) -> Option<Accepted> {
-    let taken = take_all(rt.alloc(), &mut StdFiles::new(rt), name, SOURCE_BYTES).ok()?;
-    let program = spelt(rt.alloc(), taken.bytes()).ok()?;
-    check(rt.alloc(), program).ok()
+/// The accepted program of these bytes, or why there is none.
+pub fn accepted_of(alloc: Global, source: &[u8]) -> Result<Accepted, Stop>
+    requires { length source.now ≤ SOURCE_BYTES }
+{
+    let program = spelt(alloc, source)?;
+    check(alloc, program)
 }

@@ -3,9 +3,9 @@ use Rattle.std.proofs.Common.{◌≡◌, true, sym, ap, subst, ◌∙◌}
 use Rattle.rg_tree.specs.Rows.Tables.{Tables}
 use Rattle.rg_tree.specs.Rows.RowTrees.{program_of}
 use Rattle.rg_rules.specs.Acceptance.{Accepted}
-use Rattle.rg_watch.specs.Goes.{goes_on}
-use Rattle.rg_watch.proofs.Stand.{begun-leads, has-begun, is-running, leads-on, stands-on}
-use Rattle.rg_watch.proofs.watching.watch.Goals as goal
+use Rattle.rg_trail.specs.Goes.{goes_on}
+use Rattle.rg_trail.proofs.Stand.{has-begun, is-running, stands-on}
+use Rattle.rg_trail.proofs.telling.tell_run.Goals as goal
 
 pub steps-init : goal.steps-init
 steps-init g c =
@@ -16,7 +16,6 @@ steps-init g c =
       follows = c.requires.follows;
       stands = has-begun (program_of c.args.accepted.now.program) c.args.code.now _ _ _ _ _ _ accepted c.requires.lowers
           (c.main_manager-manager.ensures ∙ ap (λ (q : Tables). q.manager) c.program.ensures.program) c.in-Ok.ensures.begun _ _;
-      leads = begun-leads c.args.code.now _ _ _ _ _ _ c.in-Ok.ensures.begun;
     }
 
 pub step-outcome-requires-clause-runs : goal.step-outcome-requires-clause-runs
@@ -28,8 +27,4 @@ steps-preserved g c =
     record {
       follows = c.step-outcome.ensures.follows;
       stands = stands-on on c.steps.invariant.stands c.step-outcome.ensures.step;
-      leads = leads-on c.step-outcome.ensures.follows c.step-outcome.ensures.step;
     }
-
-pub bridge_given-requires : goal.bridge_given-requires
-bridge_given-requires g c = c.steps.invariant.leads

@@ -1,12 +1,10 @@
 -- An accepted program between two steps of the stepper.
-use Rattle.std.proofs.Common.{◌≡◌, ◌≢◌, Bool, true, false, true≢false, inr, List, [], ◌∷◌, ◌++◌, ℕ, Option, Some, None}
-use Rattle.std.proofs.Common.{slice_get, unwrap_or, refl, sym, ap, subst, ◌∙◌}
+use Rattle.std.proofs.Common.{◌≡◌, ◌≢◌, Bool, true, false, true≢false, inr, List, [], ◌∷◌, ◌++◌, ℕ, Option}
+use Rattle.std.proofs.Common.{refl, sym, ap, subst, ◌∙◌}
 use Rattle.rg_base.specs.declared.event.Event.{Event}
 use Rattle.rg_base.specs.declared.outcome.Outcome.{Outcome}
 use Rattle.rg_base.specs.declared.outcome.Outcome.TheVariants as outcome
 use Rattle.rg_base.specs.declared.value.Val.{Val}
-use Rattle.rg_base.specs.declared.value.Word.{Word}
-use Rattle.rg_base.specs.declared.value.Word.TheVariants.{Nil, Slot}
 use Rattle.rg_tree.specs.Tree.{Tree, Class}
 use Rattle.rg_rules.specs.Acceptance.{Accepted}
 use Rattle.rg_rules.specs.Items.{Item}
@@ -16,9 +14,6 @@ use Rattle.rg_rules.specs.Steps.{Went, next}
 use Rattle.rg_sound.proofs.Law.{step-keeps}
 use Rattle.rg_input.specs.Numbers.{Follows, OnInput, Pending}
 use Rattle.rg_input.proofs.Input.{OnInput-both, OnInput-some, OnInput-still}
-use Rattle.rg_cells.specs.Table.{IsHeld}
-use Rattle.rg_frames.specs.Stack.{Stack}
-use Rattle.rg_heap.specs.Parts.{Parts as HeapParts}
 use Rattle.rg_code.specs.Code.{Code}
 use Rattle.rg_code.specs.Lowering.{Lowers}
 use Rattle.rg_plain.specs.Outcomes.{EndsMain, Settles}
@@ -37,9 +32,7 @@ use Rattle.rg_step.specs.States.{OneStep, Opens, Standing}
 use Rattle.rg_step.specs.Stepping.{Since, Stepping}
 use Rattle.rg_step.specs.Steps.{IsRunning, Runs, StepsOn, opening_machine}
 use Rattle.rg_step.specs.Steps as stepper
-use Rattle.rg_step.specs.Sound.{IsSound}
-use Rattle.rg_watch.specs.Goes.{goes_on}
-use Rattle.rg_watch.specs.Leads.{SlotsLead}
+use Rattle.rg_trail.specs.Goes.{goes_on}
 
 -- some state of the program runs on the machine, with these bytes of the input left
 pub record StandsAt (t : Tree) (code : Code) (m : Machine) (before after : List ℕ) : Type 0 where
@@ -144,31 +137,3 @@ stands-on {t} {code} {old} {new} {r} {a} {b} {c} {la} {lb} {lc} made stands step
     OnInput-both a b c la lb lc (StandsAt t code (machine_in old.stepper.parts)) (OneStep code old new r)
     (StandsAt t code (machine_in new.stepper.parts)) stands step
     (λ before between after s one. goes t code _ _ r made before between after s one.shows)
-
--- of what always holds slots lead
-sound-leads : (p : Parts) → IsSound p.heap p.frames → SlotsLead p
-sound-leads p s = s.stands.opened.slots
-
--- where it begins
-pub begun-leads : (code : Code) (steps : ℕ) (since : Since) (slides : Bool) (events : List Event) (new : Stepping) (manager : Manager) →
-    (p : Parts) × Opens code manager p × (new ≡ record { parts = p; steps = steps; since = since; slides = slides; events = events }) →
-    SlotsLead new.parts
-begun-leads code steps since slides events new manager begun =
-    subst (λ (n : Stepping). SlotsLead n.parts) (sym begun.2) (sound-leads begun.0 begun.1.sound)
-
--- and behind a step
-pub leads-on : {code : Code} {old new : Standing} {r : Outcome} {a b : Pending} {la lb : Option (List ℕ)} → Follows b lb →
-    OnInput a b la lb (OneStep code old new r) → SlotsLead new.stepper.parts
-leads-on {code} {old} {new} {r} {a} {b} {la} {lb} follows step =
-    sound-leads new.stepper.parts (OnInput-some a b la lb (OneStep code old new r) follows step).2.sound
-
--- a word in a slot leads to a cell that is held
-pub slot-held : (p : Parts) (heap : HeapParts) (frames : Stack) → SlotsLead p → heap ≡ p.heap → frames ≡ p.frames → (j s : ℕ) →
-    unwrap_or (slice_get frames.slots j) Nil ≡ Slot s → IsHeld heap.cells.heap s
-slot-held p heap frames leads h f j s e =
-    subst (λ (q : HeapParts). IsHeld q.cells.heap s) (sym h)
-    (leads j s (subst (λ (q : Stack). slice_get q.slots j ≡ Some (Slot s)) f (there (slice_get frames.slots j) e)))
-  where
-    there : (w : Option Word) → unwrap_or w Nil ≡ Slot s → w ≡ Some (Slot s)
-    there None z = absurd cc
-    there (Some w) z = ap Some z

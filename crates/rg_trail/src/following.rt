@@ -1,32 +1,35 @@
-//! What a run has made of regions and windows, step by step (docs/embedding.md, "Step by step").
+//! What a run has made of regions and windows, step by step (docs/embedding.md, "A trail").
 
-ghost use Rattle.rg_watch.specs.Leads.{SlotsLead};
-
-use rg_base::{Manager, Memory, Word};
+use crate::cells::shown;
+use crate::json::{Items, manager, number};
+use rg_base::{ByteList, Manager, Memory, Val};
 use rg_code::{CodeList, Op};
 use rg_step::Stepper;
 use std::alloc::Global;
 
 /// A region that was made: its manager, and the serial of its bridge.
 #[derive(Clone, Copy)]
-pub struct Made {
-    pub manager: Manager,
-    pub bridge: u64,
+struct Made {
+    manager: Manager,
+    bridge: u64,
 }
 
 /// A window that is open: its number, and its region.
 #[derive(Clone, Copy)]
-pub struct Open {
-    pub number: u64,
-    pub region: u64,
+struct Open {
+    number: u64,
+    region: u64,
 }
 
 /// The regions that were made by `new iso C` or `new iso C [e]`, region 1 first, and the windows
-/// that are open, from the bottom.
+/// that are open, from the bottom; and what of both was told last.
 #[derive(Drop)]
 pub struct Followed {
-    pub made: Vec<Made>,
-    pub open: Vec<Open>,
+    made: Vec<Made>,
+    open: Vec<Open>,
+    told: usize,
+    told_open: usize,
+    told_top: u64,
 }
 
 /// The line of the step that begins at an address; 0 where none does.
@@ -76,25 +79,16 @@ fn slot_given(code: &CodeList, at: usize) -> Option<u32> {
     None
 }
 
-/// The serial of the object to which a slot of the top frame leads, if it leads to one.
-fn serial_in(stepper: &Stepper, slot: u32) -> Option<u64>
-    requires { SlotsLead stepper.now.parts }
-{
-    let heap = stepper.heap()?;
-    let frames = stepper.frames()?;
-    let Word::Slot(k) = frames.word(slot) else {
-        return None;
-    };
-    Some(heap.serial(k))
-}
-
 /// The serial of the object that becomes the bridge of the region that the step at an address
 /// leaves, if it ends a window with `giving`.
-pub fn bridge_given(stepper: &Stepper, code: &CodeList, at: usize) -> Option<u64>
-    requires { SlotsLead stepper.now.parts }
-{
+pub fn bridge_given(stepper: &Stepper, code: &CodeList, at: usize) -> Option<u64> {
     let slot = slot_given(code, at)?;
-    serial_in(stepper, slot)
+    let heap = stepper.heap()?;
+    let frames = stepper.frames()?;
+    match shown(heap, frames.word(slot)) {
+        Val::Obj(serial) => Some(serial),
+        Val::Nil | Val::Int(_) | Val::Bool(_) => None,
+    }
 }
 
 impl Followed {
@@ -103,6 +97,9 @@ impl Followed {
         Followed {
             made: Vec::new(alloc),
             open: Vec::new(alloc),
+            told: 0,
+            told_open: 0,
+            told_top: 0,
         }
     }
 
@@ -156,5 +153,53 @@ impl Followed {
             }
         }
         Ok(())
+    }
+
+    // Appends the regions that weren't told yet.
+    fn tell_regions(&mut self, alloc: Global, out: &mut ByteList) -> Result<(), Memory> {
+        let mut regions = Items::new(alloc);
+        for k in self.told..self.made.len() {
+            if let Some(made) = self.made.get(k) {
+                let text = regions.next()?;
+                text.push(b'[')?;
+                number(text, (k as u64).saturating_add(1))?;
+                text.push(b',')?;
+                manager(text, made.manager)?;
+                text.push(b',')?;
+                number(text, made.bridge)?;
+                text.push(b']')?;
+            }
+        }
+        self.told = self.made.len();
+        regions.tell_some(b"regions", out)
+    }
+
+    // Appends the windows that are open, where others were told last.
+    fn tell_windows(&mut self, alloc: Global, out: &mut ByteList) -> Result<(), Memory> {
+        let Some(top) = self.open.last().copied() else {
+            return Ok(());
+        };
+        if self.open.len() == self.told_open && top.number == self.told_top {
+            return Ok(());
+        }
+        self.told_open = self.open.len();
+        self.told_top = top.number;
+        let mut windows = Items::new(alloc);
+        for open in self.open.iter() {
+            let text = windows.next()?;
+            text.push(b'[')?;
+            number(text, open.number)?;
+            text.push(b',')?;
+            number(text, open.region)?;
+            text.push(b']')?;
+        }
+        windows.tell(b"windows", out)
+    }
+
+    /// Appends the regions that weren't told yet, and the windows that are open, where others were
+    /// told last.
+    pub fn tell(&mut self, alloc: Global, out: &mut ByteList) -> Result<(), Memory> {
+        self.tell_regions(alloc, out)?;
+        self.tell_windows(alloc, out)
     }
 }
