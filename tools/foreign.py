@@ -621,7 +621,7 @@ class Writer:
         for name, one in zip(many, rights):
             if name in language().words:
                 self.note(node.start, f"`{name}` is a reserved word, and no name.")
-                name = self.fresh("total", "number")
+                name = self.renamed(node, name)
             said, tail = self.right(one, name) if one is not None else ("", "")
             sure = re.match(r"new (iso |tmp )?(\w+)", said)
             if node.type and types and not sure:
@@ -642,6 +642,16 @@ class Writer:
             self.env[name] = type
             tails.append(f"let {name}: {type} = {said};{tail}")
         self.put(node, *tails)
+
+    def renamed(self, node, name):
+        """Another name for a variable with that of a reserved word, up to the end of its block."""
+        depth, new = 0, self.fresh("total", "number", "other")
+        for it in self.reader.toks:
+            if it.start >= node.end and depth >= 0:
+                depth += (it.text == "{") - (it.text == "}")
+                if it.text == name and it.kind == "name" and depth >= 0:
+                    self.edits.append((it.start, it.end, new))
+        return new
 
     def target(self, e):
         said = self.value(e, 8)

@@ -406,12 +406,12 @@ def of_syntax(reggio, source, found, at):
 def of_unknown(case):
     """E20: a name that nothing has, and what is there in its place."""
     names, node = case.names, case.node
-    listed = lambda what, some: [f"{what} {'are' if len(some) > 1 else 'is'} {', '.join(f'`{it}`' for it in some[:LISTED])}" + (" and more." if len(some) > LISTED else ".")] if some else []
+    listed = lambda what, some: [f"{what} {', '.join(f'`{it}`' for it in some[:LISTED])}" + (" and more." if len(some) > LISTED else ".")] if some else []
     only = lambda start, end, some: [(start, end, it) for it in some[:LISTED]]
     for m in re.finditer(r"\b(?:mut|tmp|paused|imm|iso|new(?:\s+iso|\s+tmp)?)\s+([A-Za-z_]\w*)", case.code[node.start:case.end]):
         if m[1] not in names.classes and m[1] not in CAPS:
             case.found.span = node.start + m.start(1), node.start + m.end(1)
-            return [f"There is no class `{m[1]}`.", *listed("What there", list(names.classes))], [], only(*case.found.span, list(names.classes))
+            return [f"There is no class `{m[1]}`.", *listed("The classes are", list(names.classes))], [], only(*case.found.span, list(names.classes))
     for e, use in case.paths():
         parts = [e]
         while parts[0].kind == "path":
@@ -431,13 +431,14 @@ def of_unknown(case):
             what = "method" if use == "call" and one is e else "field"
             mine = [(it, name) for it in home.some for name in (it.names if it.kind == "field" else [it.name])]
             some = [name for it, name in mine if (it.kind == "method") == (what == "method")]
-            said = [f"`{of}` is `{type}`, and `{home.name}` has no {what} `{one.name}`.", *listed("What it has", [case.said_of(it, name, home) for it, name in mine])]
+            said = [f"`{of}` is `{type}`, and `{home.name}` has no {what} `{one.name}`.", *listed("It has", [case.said_of(it, name, home) for it, name in mine])]
             edits = []
             if type.startswith("iso "):
                 said.append("What an `iso` owns is entered first.")
             elif use == "target" and one is e and node.kind == "assign" and case.type(node.rights[0]):
-                edits = [(home.shuts.start, home.shuts.start, f"{one.name}: {case.type(node.rights[0])}; ")] if home.shuts is not None else []
-                said.append("Where it is a field that isn't declared yet, the class gets it; else one of these is meant.")
+                of = case.type(node.rights[0])
+                edits = [(home.shuts.start, home.shuts.start, f"{one.name}: {of}; ")] if home.shuts is not None else []
+                said.append("Where it is a field that isn't declared yet, the class gets it; else another one is meant.")
             return said, edits, only(one.place, one.end, some)
     return [], [], []
 
@@ -472,7 +473,7 @@ def of_variable(case, one, path, listed, only):
             edits += case.merged(outer)
     else:
         some = case.variables()
-        said += listed("What there", [f"{it}: {type}" for it, type in some if it != "self"])
+        said += listed("What is visible, the nearest first:", [f"{it}: {type}" for it, type in some if it != "self"])
         return said, edits, only(one.start, one.end, [it for it, _ in some])
     return said, edits, []
 
