@@ -1,15 +1,16 @@
 //! A program of one's own that runs a program of the language (docs/embedding.md, "The top call"):
 //! its text stands here, its output goes to a sink that counts lines, its notes are taken into
-//! memory, and its pacers are those of another crate. Then it runs it once more, for some steps, and
-//! tells the objects that are held behind them. `tools/new` makes a crate like this one.
+//! memory, and its pacers are its own. Then it runs it once more, for some steps, and tells the
+//! objects that are held behind them. `tools/new` makes a crate like this one.
 #![tactic(auto)]
 
+mod headroom;
 mod lines;
 mod shown;
 
+use crate::headroom::Headroom;
 use crate::lines::Lines;
 use crate::shown::tell_objects;
-use rg_headroom::Headroom;
 use rg_io::{MemFiles, MemSink, MemSource, StdSink};
 use rg_run::Machine;
 use rg_top::reggio;

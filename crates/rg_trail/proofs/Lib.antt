@@ -1,0 +1,3 @@
+-- The lemmas that the answers of rg_trail use.
+mod Read
+mod Stand
