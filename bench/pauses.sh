@@ -90,6 +90,10 @@ if shutil.which("guile"):
 print(f"# {datetime.date.today()}, {machine()}, load {os.getloadavg()[0]:.1f}; the least of {turns} runs' longest pauses")
 versions = {"Lua": ["lua5.4", "-v"], "OCaml": ["ocamlopt", "-version"], "Guile": ["guile", "--version"]}
 print("# " + ", ".join(f"{name} {version(words)}" for name, words in versions.items() if shutil.which(words[0])))
+lines = [line for line in (sources / "server.rg").read_text().splitlines() if not line.lstrip().startswith("//")]
+capabilities, windows = (len(re.findall(rf"\b(?:{words})\b", "\n".join(lines))) for words in ("mut|tmp|paused|imm|iso", "enter"))
+others = [line for line in (sources / "server.lua").read_text().splitlines() if not line.startswith("--")]
+print(f"# server.rg has {len(lines)} lines, {capabilities} capabilities and {windows} windows; server.lua has {len(others)} lines")
 print("# runtime\tsize\tlongest_us\tmedian_us\tlooked_at", flush=True)
 wanted = {}
 for size in SIZES:
