@@ -9,7 +9,8 @@
 # What is tried: a runtime as it collects by itself, where it has ways `incremental` and `generational`; and `whole`, with one collection of
 # all that is there, of which the largest pause is the longest one. Of Reggio this is a collection of the region of the ring.
 # `looked_at` are the objects in front of the largest collection: of Reggio as the report tells them; of the others, for a whole cycle, all that are in reach, reckoned from the program, since these runtimes don't tell.
-# It prints a table for `tools/compare --plot`, its first lines the machine and the date. Not a part of the gate.
+# It prints a table for `tools/compare --plot`, its first lines the machine, the date and the versions; where valgrind is installed, the
+# machine instructions of a request of Reggio, too. Not a part of the gate.
 # Usage: bench/pauses.sh [TURNS [PROGRAM]]; bench/pauses.sh 5 > docs/pauses.txt && tools/compare --plot docs/pauses.txt > docs/pauses.svg
 set -eu
 . "$(dirname "$0")/common.sh"
@@ -24,6 +25,7 @@ from pathlib import Path
 work, program, turns, sources = Path(sys.argv[1]), sys.argv[2], int(sys.argv[3]), Path(sys.argv[4])
 SIZES = 100, 1_000, 10_000, 100_000, 1_000_000
 MANY, FEW = 4_000, 100  # requests; where the whole heap is collected behind each twentieth, fewer
+COUNTED = 100, 10_000, 100_000  # sizes for which the instructions of a request are counted
 MOST_STEPS = "1000000000"
 ITEMS = 200  # of a request, that are there at once
 
@@ -80,6 +82,15 @@ def version(words):
     return found[0] if (found := re.search(r"\d+(\.\d+)+", said)) else "of no version"
 
 
+def instructions(size):
+    """The machine instructions of a request of Reggio, counted by valgrind: no load changes them."""
+    def counted(requests):
+        words = ["valgrind", "--tool=cachegrind", "--cache-sim=no", "--cachegrind-out-file=/dev/null", *reggio(size, requests, False)]
+        notes = subprocess.run(words, stdout=subprocess.DEVNULL, stderr=subprocess.PIPE, check=True).stderr.decode()
+        return int(re.search(r"I +refs: +([\d,]+)", notes)[1].replace(",", ""))
+    return (counted(40) - counted(20)) // 20
+
+
 def machine():
     cpu = next((line.split(":")[1].strip() for line in open("/proc/cpuinfo") if line.startswith("model name")), platform.machine())
     return f"{os.cpu_count()} processors, {cpu}"
@@ -90,6 +101,13 @@ if shutil.which("guile"):
 print(f"# {datetime.date.today()}, {machine()}, load {os.getloadavg()[0]:.1f}; the least of {turns} runs' longest pauses")
 versions = {"Lua": ["lua5.4", "-v"], "OCaml": ["ocamlopt", "-version"], "Guile": ["guile", "--version"]}
 print("# " + ", ".join(f"{name} {version(words)}" for name, words in versions.items() if shutil.which(words[0])))
+lines = [line for line in (sources / "server.rg").read_text().splitlines() if not line.lstrip().startswith("//")]
+capabilities, windows = (len(re.findall(rf"\b(?:{words})\b", "\n".join(lines))) for words in ("mut|tmp|paused|imm|iso", "enter"))
+others = [line for line in (sources / "server.lua").read_text().splitlines() if not line.startswith("--")]
+print(f"# server.rg has {len(lines)} lines, {capabilities} capabilities and {windows} windows; server.lua has {len(others)} lines")
+if shutil.which("valgrind"):
+    counted = [f"{instructions(size):,}" for size in COUNTED]
+    print(f"# a request of Reggio takes {', '.join(counted)} machine instructions beside {', '.join(f'{size:,}' for size in COUNTED)} objects")
 print("# runtime\tsize\tlongest_us\tmedian_us\tlooked_at", flush=True)
 wanted = {}
 for size in SIZES:
