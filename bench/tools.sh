@@ -101,6 +101,16 @@ expect 'compare: bytes that are no UTF-8' 1 '' 'compare: bytes.rg: E01 byte at l
 expect 'compare: a program' 0 'managers *arena *all wrote the same' '' "$compare seven.rg"
 expect 'compare: a trap' 0 'managers *  3*all wrote the same' '' "$compare trap.rg"
 expect 'compare: a program that never ends' 0 'managers *  4*all wrote the same' '' "$compare endless.rg"
+printf '# a machine\nReggio\t100\t200.5\t90\t201\nReggio\t1000\t210\t90\t201\nLua, whole\t100\t300\t90\t300\n' >pauses.txt
+printf 'Reggio\t100\tmany\t90\t201\n' >words.txt
+printf 'Reggio\t0\t1\t1\t1\n' >zero.txt
+expect 'compare: a plot' 0 '<svg*Reggio*Lua, whole*a machine*</svg>' '' "$compare --plot pauses.txt"
+expect 'compare: a plot of one row' 0 '<svg*</svg>' '' "head -n 2 pauses.txt >one.txt; $compare --plot one.txt"
+expect 'compare: a plot of nothing' 1 '' 'compare: empty.rg: no row of pauses*' "$compare --plot empty.rg"
+expect 'compare: a plot of words' 1 '' 'compare: words.txt: no row of pauses: *' "$compare --plot words.txt"
+expect 'compare: a plot of zeros' 1 '' 'compare: zero.txt: a row with nothing: *' "$compare --plot zero.txt"
+expect 'compare: a plot of noise' 1 '' 'compare: noise.rg: no row of pauses*' "$compare --plot noise.rg"
+expect 'compare: a plot of two files' 2 '' 'usage: tools/compare *' "$compare --plot pauses.txt pauses.txt"
 expect 'compare: no program' 1 '' 'compare: missing: No such file or directory' "REGGIO=missing $compare seven.rg"
 
 schedule=$here/tools/schedule
@@ -231,6 +241,22 @@ expect 'image: a program without classes' 1 '' '*the program has 0 classes' "$im
 mkdir copy && (cd "$here" && tar cf - --exclude=./bin --exclude=./.git --exclude=out .) | tar xf - -C copy
 expect 'explain: no program and no rt' 127 '' "*isn't on the PATH*" "unset REGGIO; PATH=/usr/bin:/bin copy/tools/explain fault.rg"
 expect 'compare: no program and no rt' 127 '' "*isn't on the PATH*" "unset REGGIO; PATH=/usr/bin:/bin copy/tools/compare seven.rg"
+
+new=copy/tools/new
+expect 'new: no name' 2 '' 'usage: tools/new *' "$new"
+expect 'new: two names' 2 '' 'usage: tools/new *' "$new a b"
+expect 'new: a name that is none' 2 '' 'new: a name is a letter*' "$new 'a b'"
+expect 'new: a crate that is there' 1 '' 'new: rg_embed is there already' "$new rg_embed"
+expect 'new: a crate' 0 'crates/host is made: *' '' "$new host"
+expect 'new: its files' 0 '*my_pacer_is_here*' '' "cd copy/crates/host && grep -q '^host: rg_base' ../../crates.txt &&
+  ls proofs/Lib.antt specs/Lib.antt src/headroom.rt src/lines.rt src/shown.rt stdout && echo my_pacer_is_here"
+expect 'new: the same once more' 1 '' 'new: host is there already' "$new host"
+
+# Ctrl-C ends a tool with one line, and no traceback.
+stopped() { echo "timeout --preserve-status -s INT 2 $*"; }
+expect 'compare: stopped' 130 '*' 'compare: stopped' "$(stopped "$compare" endless.rg)"
+expect 'draw: stopped' 130 '' 'draw: stopped' "tail -f /dev/null --pid \$\$ | $(stopped "$draw")"
+expect 'schedule: stopped' 130 '*' 'schedule: stopped' "$(stopped "$schedule" add.rg add.plan --many 10000)"
 
 for tool in "$here"/tools/*; do
   if [ -f "$tool" ] && [ -x "$tool" ] && [ "$(basename "$tool")" != unproved ]; then

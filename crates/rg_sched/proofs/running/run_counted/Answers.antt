@@ -51,13 +51,13 @@ returns-in_default-clause-run g c =
     (g.S.Source.left c.more.new.source) (g.S.Source.left c.next_behaviour.new.source) now.taken (now.taken + 1) now.world now.invariant.so_far less refl
     looks names
 
-pub returns-in_err-event-clause-run : goal.returns-in_err-event-clause-run
-returns-in_err-event-clause-run g c =
+pub returns-in_err-world-2-clause-run : goal.returns-in_err-world-2-clause-run
+returns-in_err-world-2-clause-run g c =
     let now = c.loop-world in
-    let p = err_from_is_err_and c.from_residual-in_err-event.result c.from_residual-in_err-event.ensures.1 in
+    let p = err_from_is_err_and c.from_residual-in_err-world-2.result c.from_residual-in_err-world-2.ensures.1 in
     both-quiet c.args.schedule.now now.schedule c.more.new.self c.next_behaviour.new.schedule (g.S.Source.left c.args.source.now)
     (g.S.Source.left now.source) (g.S.Source.left c.more.new.source) (g.S.Source.left c.next_behaviour.new.source) now.taken now.world
-    (Looks c.more.result) (Names (length c.args.plan.now.behaviours) c.next_behaviour.result) c.from_residual-in_err-event.result p.0 p.1 (inl p.2)
+    (Looks c.more.result) (Names (length c.args.plan.now.behaviours) c.next_behaviour.result) c.from_residual-in_err-world-2.result p.0 p.1 (inl p.2)
     now.invariant.so_far c.more.ensures.looks c.next_behaviour.ensures.names
 
 pub returns-clause-run : goal.returns-clause-run
@@ -79,7 +79,7 @@ loop-world-preserved g c =
     record {
       so_far = goes_on c.args.schedule.now now.schedule c.more.new.self c.next_behaviour.new.schedule (g.S.Source.left c.args.source.now)
           (g.S.Source.left now.source) (g.S.Source.left c.more.new.source) (g.S.Source.left c.next_behaviour.new.source) now.taken (now.taken + 1)
-          c.in-Some.i now.world c.event.new.self now.invariant.so_far less refl looks names (c.in_ok-event.ensures.shows c.args.images.items);
+          c.in-Some.i now.world c.in_ok-world-2.world now.invariant.so_far less refl looks names (c.in_ok-world-2.ensures.shows c.args.images.items);
       follows = c.next_behaviour.ensures.follows;
       never_falls = omega (arith, now.invariant.never_falls, c.more.ensures.never_falls, c.next_behaviour.ensures.never_falls);
       tuned = (c.event.ensures.tuned.0 ∙ now.invariant.tuned.0, c.event.ensures.tuned.1 ∙ now.invariant.tuned.1);

@@ -1,0 +1,18 @@
+"""How the tools end: where their reader has gone, quietly, and by Ctrl-C with one line."""
+import os
+import sys
+
+
+def run(name, main, gone=1):
+    """Runs a tool, and ends with its status; with `gone` where nobody reads any more."""
+    try:
+        status = main() or 0
+        sys.stdout.flush()
+    except BrokenPipeError:
+        os.dup2(os.open(os.devnull, os.O_WRONLY), 1)
+        status = gone
+    except KeyboardInterrupt:
+        os.dup2(os.open(os.devnull, os.O_WRONLY), 1)   # (what wasn't written yet isn't)
+        print(f"{name}: stopped", file=sys.stderr)
+        status = 130
+    sys.exit(status)
