@@ -8,6 +8,8 @@ import sys
 import tempfile
 import threading
 
+import ending
+
 top = os.path.dirname(os.path.dirname(os.path.realpath(__file__)))
 MOST_STEPS = 10_000_000     # that rg_trail makes
 MOST_SOURCE = 1_048_576
@@ -136,13 +138,13 @@ def ended(it):
 
 
 def guarded(main, tool):
-    """Calls a tool's main, and says in a line why it has nothing to show."""
-    try:
-        main()
-        sys.stdout.flush()
-    except Refused as why:
-        print(f"{tool}: {why}", file=sys.stderr)
-        sys.exit(why.status)
-    except BrokenPipeError:
-        os.dup2(os.open(os.devnull, os.O_WRONLY), 1)
-        sys.exit(1)
+    """Runs a tool's main, and says in a line why it has nothing to show."""
+    def tried():
+        try:
+            main()
+            return 0
+        except Refused as why:
+            print(f"{tool}: {why}", file=sys.stderr)
+            return why.status
+
+    ending.run(tool, tried, 1)
