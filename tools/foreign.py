@@ -63,6 +63,14 @@ def joined(some):
     return " ".join(some)
 
 
+def paused(type):
+    """The type that a window opened behind a variable sees of it."""
+    if not type or " " not in type:
+        return type
+    cap, name = type.split()
+    return f"{language().paused.get(cap.encode(), cap.encode()).decode()} {name}"
+
+
 class Writer:
     """Rewrites a form of a tree. Where more than one thing may be meant, `script` says which is taken."""
 
@@ -1050,7 +1058,7 @@ class Writer:
             name = self.fresh("z", "inner")
             self.note(node.start, "A window has a name for the bridge of its region: `enter y as z { .. }`.")
         self.replace(node.start, node.head, f"enter {of} as {name} ")
-        env, self.env = self.env, {one: (lambda cap, rest: (language().paused.get(cap.encode(), cap.encode()).decode() + rest))(it.split()[0], it[len(it.split()[0]):]) if " " in it else it for one, it in self.env.items()}
+        env, self.env = self.env, {one: paused(it) for one, it in self.env.items()}
         self.env[name] = "mut " + type.split()[-1] if type else None
         self.block(node.body)
         self.braces(node.body, self.indent(node.start))
@@ -1234,10 +1242,7 @@ def scope(writer, path):
                     writer.env.update(dict.fromkeys(it.names, type))
         elif outer.kind == "enter" and inner is outer.body:
             type = writer.type_of(outer.of)
-            for one, it in list(writer.env.items()):
-                if it and " " in it:
-                    cap, name = it.split()
-                    writer.env[one] = f"{language().paused.get(cap.encode(), cap.encode()).decode()} {name}"
+            writer.env = {one: paused(it) for one, it in writer.env.items()}
             writer.env[outer.name] = "mut " + type.split()[-1] if type else None
 
 

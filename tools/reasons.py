@@ -151,7 +151,7 @@ class Case:
         whole = self.code[first:start] + put
         if put.rstrip()[-1:] not in (";", "}"):
             whole += re.match(r"[^;{}\n]*(;|\s*\{|)", self.code[end:])[0]
-        whole = line_words(whole)
+        whole = line_words(whole) or whole.strip()
         return (where + f"`{whole[:300] + (' ..' if len(whole) > 300 else '')}`").encode("latin-1").decode("utf-8", "replace")
 
     def written(self, *places):
@@ -819,7 +819,7 @@ def of_capability(case):
             m = re.compile(r"\s*def\s+(\w+)").match(case.code, method.start)
             edits.append((m.start(1), m.end(1), "paused"))
         right = it.node.right if it.kind == "variable" else None
-        if cap == "imm":
+        if cap == "imm" and (method is None or method.body is not None and method.body.has(lambda it: it.kind in ("assign", "swap", "enter"))):
             said.append("What is frozen is never changed again: it is written in its window, before `freeze`.")
             if right is not None and right.kind == "verb" and e.kind in ("name", "path"):
                 z = case.fresh("z", "inner")
@@ -1024,7 +1024,7 @@ def of_iso_field(case):
         if member is None or member.kind != "field" or member.type[0] != "iso":
             continue
         field, type = case.src(e), " ".join(member.type)
-        said = [f"The field `{field}` owns its region (`{type}`): it is never copied or assigned, only `swap` with a variable changes it."]
+        said = [f"The field `{field}` owns its region (`{type}`): it is never copied or assigned: `swap` exchanges it with a variable, and `enter` opens it where it is."]
         g = case.fresh("out", "taken")
         if use == "target":
             right = node.rights[0]
