@@ -134,7 +134,7 @@ class Writer:
         home = self.classes.get(type.split()[-1]) if type else None
         if home is None:
             return None, None
-        for it in [*(home.params or []), *home.some]:
+        for it in home.some:
             if it.kind == "method" and it.name == name:
                 return it, (self.some_type(it.result) if it.result else None)
             if it.kind == "field" and name in it.names:
@@ -168,7 +168,7 @@ class Writer:
         if kind == "unary":
             return "bool" if e.op == "not" else self.type_of(e.of) if e.op in ("&", "*") else "int"
         if kind == "binary":
-            return "bool" if e.op in ("and", "or", "xor") else self.type_of(e.right) if e.op in ("??", "?:") else "int"
+            return "bool" if e.op in ("and", "or", "xor") else "int"
         if kind in ("paren", "wrap", "cast"):
             return self.type_of(e.of)
         if kind == "choice":
@@ -246,9 +246,6 @@ class Writer:
                 if it != e.said or not it.isdigit():
                     self.note(e.start, "A number is decimal digits alone.")
                 return str(int(m[1], base)), 8
-        m = re.fullmatch(r"([0-9]{1,9})e([0-9]{1,2})", it)
-        if m:
-            return str(int(m[1]) * 10 ** int(m[2])), 8
         raise Cannot(e.start, "Numbers are whole, and there are no fractions: count in tenths or hundredths, or round." if "." in it else "Numbers go from -9223372036854775808 to 9223372036854775807.")
 
     def value_text(self, e):
@@ -346,13 +343,6 @@ class Writer:
                 self.pre.append(f"let {name}: bool = {left}; if {'not ' if op == 'or' else ''}{name} {{ {joined(inner)} {name} = {right}; }}")
                 return name, 8
             return f"{left} {op} {right}", LEVELS[op]
-        if op == "xor":
-            return f"{self.value(e.left, 5)} != {self.value(e.right, 5)}", 4
-        if op in ("??", "?:"):
-            type = self.type_of(e.right) or self.choose(self.all_types())
-            name, left = self.fresh("v", "or_else"), self.value(e.left, 8)
-            self.pre.append(f"let {name}: {type} = {left}; if {name} is nil {{ {name} = {self.value(e.right)}; }}")
-            return name, 8
         if op == "&" and e.right.kind == "number" and e.right.said == "1":
             self.note(e.place, "There are no operators on bits.")
             return f"{self.value(e.left, 6)} % 2", 6
@@ -361,8 +351,8 @@ class Writer:
                 self.note(e.place, "There are no powers: write the product.")
                 return " * ".join([self.value(e.left, 7)] * int(e.right.said)), 6
             raise Cannot(e.place, "There are no powers: write the product.")
-        if op in ("|", "^", "&", "<<", ">>"):
-            raise Cannot(e.place, "There are no operators on bits.")
+        if op in ("|", "^", "&", "<<", ">>", "??", "?:", "xor"):
+            raise Cannot(e.place, "There are no operators on bits." if len(op) < 2 or op[0] in "<>" else "For truth values `!=` says that they differ." if op == "xor" else f"There is no `{op}`: ask `is nil` first, by an `if`.")
         if op == "//":
             self.note(e.place, "`//` begins a comment; `/` divides whole numbers.")
             op = "/"
@@ -401,10 +391,7 @@ class Writer:
         return ("not " if e.no else "") + f"{of} is nil", 3 if e.no else 4
 
     def value_within(self, e):
-        self.note(e.start, "Nothing asks whether an array has an element: a loop looks for it.")
-        has, at, row = self.fresh("has"), self.fresh("i", "at"), self.value(e.row, 8)
-        self.pre.append(f"let {has}: bool = false; let {at}: int = 0; while {at} < size {row} {{ if {row}[{at}] == {self.value(e.of, 5)} {{ {has} = true; }} {at} = {at} + 1; }}")
-        return ("not " if e.no else "") + has, 3 if e.no else 8
+        raise Cannot(e.start, "Nothing asks whether an array has an element: a loop looks for it.")
 
     def value_choice(self, e):
         self.note(e.test.start, "A value isn't chosen inside of an expression: an `if` is a statement.")
@@ -463,7 +450,7 @@ class Writer:
         size = self.value(e.size) if e.size is not None else self.value(e.args[0][1]) if e.args and home.element else self.choose(["1", "3"]) if home.element else None
         if e.args is not None and not home.element:
             self.note(e.start, "There are no constructors: `new C` makes an object whose fields are 0, `false` and nil, and behind it they are written.")
-            fields = [(it.names[0], it) for it in [*(home.params or []), *home.some] if it.kind == "field" and it.names]
+            fields = [(it.names[0], it) for it in home.some if it.kind == "field" and it.names]
             maker = next((it for it in home.some if it.kind == "method" and it.name in (named, "init", "__init__", "constructor", "new", "create", "set") and len(it.params) == len(e.args)), None) if all(not one for one, _ in e.args) else None
             if maker is not None and e.args:
                 tail = f" call {name or 'it'}.{maker.name if maker.name not in (named, '__init__', 'constructor', 'new') else 'init'}({', '.join(self.value(it) for _, it in e.args)});"
@@ -520,20 +507,6 @@ class Writer:
                 return f"size {self.value(one, 8)}", ""
             if word in ("input", "readLine", "scan", "raw_input", "readline", "gets") and not args:
                 return "read", ""
-            if word in ("max", "min") and len(args) == 2:
-                a, b = self.value(args[0]), self.value(args[1], 5)
-                if name:
-                    return a, f" if {name} {'<' if word == 'max' else '>'} {b} {{ {name} = {b}; }}"
-                held = self.fresh("v", word)
-                self.pre.append(f"let {held}: int = {a}; if {held} {'<' if word == 'max' else '>'} {b} {{ {held} = {b}; }}")
-                return held, ""
-            if word == "abs" and one is not None:
-                held = name or self.fresh("v", "abs")
-                tail = f" if {held} < 0 {{ {held} = -{held}; }}"
-                if name:
-                    return self.value(one), tail
-                self.pre.append(f"let {held}: int = {self.value(one)};{tail}")
-                return held, ""
             if one is not None and word in ("int", "bool", "Some", "Ok", "Box", "Rc", "Arc", "Just", "Integer", "long", "parseInt", "float", "number"):
                 self.note(e.start, "There are no conversions and no boxes: the value stands for itself.")
                 return self.right(one, name)
@@ -679,10 +652,7 @@ class Writer:
         if len(lefts) != 1 or len(rights) != 1:
             raise Cannot(node.start, "One assignment gives one value to one variable.")
         said = []
-        if node.chain:
-            self.note(node.start, "An assignment is a statement, and gives no value.")
-        lefts = [lefts[0], *node.chain]
-        left = self.target(lefts[-1])
+        left = self.target(lefts[0])
         if op:
             self.note(node.start, f"There is no `{op}=`: `{left} = {left} {op} ..;`.")
             level = LEVELS.get(op)
@@ -693,7 +663,7 @@ class Writer:
             # A name that nothing has yet is declared.
             first, tail = self.right(rights[0], left)
             of = self.type_of(rights[0])
-            if lefts[-1].kind == "name" and re.fullmatch(r"\w+", left) and left not in self.env and left != "self":
+            if lefts[0].kind == "name" and re.fullmatch(r"\w+", left) and left not in self.env and left != "self":
                 type = of or self.choose(self.all_types())
                 self.note(node.start, "A variable is declared before it is assigned: `let` gives its name, its type and its value.")
                 self.env[left] = type
@@ -703,8 +673,6 @@ class Writer:
                 said.append(f"{left} = {held};")
             else:
                 said.append(f"{left} = {first};{tail}")
-        for it in reversed(lefts[:-1]):
-            said.append(f"{self.target(it)} = {left};")
         self.put(node, *said)
 
     def on_alone(self, node):
@@ -740,9 +708,6 @@ class Writer:
         for _, it in node.args:
             if it.kind == "text":
                 self.note(it.start, TEXT)
-                found = re.findall(r"\{([^{}:!]+)[^{}]*\}", it.said) if it.prefix == "f" else re.findall(r"\$\{?([\w.]+)", it.said)
-                from loose import Reader
-                shown += [self.value(Reader(one).expr()) for one in found]
             elif it.kind == "binary" and it.op == "+" and it.has(lambda one: one.kind == "text"):
                 self.note(it.start, TEXT)
                 parts = []
@@ -804,10 +769,6 @@ class Writer:
             self.note(node.start, "`swap` exchanges a variable with a field: two variables exchange by a third.")
             held = self.fresh("held")
             return self.put(node, f"let {held}: {self.type_of(node.some[0]) or self.choose(self.all_types())} = {a};", f"{a} = {b};", f"{b} = {held};")
-        elif "." in a:
-            self.note(node.start, "`swap` exchanges a variable with a field: two fields exchange by a variable.")
-            held, type = self.fresh("held"), self.member(self.type_of(node.some[0].of), node.some[0].name)[1]
-            return self.put(node, f"let {held}: {type or self.choose(self.all_types())} = nil;", f"swap {held}, {a};", f"swap {held}, {b};", f"swap {held}, {a};")
         self.put(node, f"swap {a}, {b};")
 
     # -- Blocks
@@ -1167,7 +1128,7 @@ class Writer:
         before, self.home = self.home, node
         if node.element:
             return
-        if node.word in ("enum", "trait", "interface", "protocol", "impl", "namespace", "mod", "module", "union") or node.params:
+        if node.word in ("enum", "trait", "interface", "protocol", "impl", "namespace", "mod", "module", "union"):
             raise Cannot(node.start, ABOUT.get(node.word, ""))
         if node.word != "class" or node.base:
             self.note(node.start, ABOUT.get(node.word, "") if node.word != "class" else "A class has a name alone: no inheritance, no interfaces, no generics. A field holds the other object.")
