@@ -47,14 +47,14 @@ printf 'main arena {\v}' >tab.rg
 usage='usage: tools/explain FILE *'
 explain=$here/tools/explain
 expect 'explain: no file' 2 '' "$usage" "$explain"
-expect 'explain: two files' 2 '' "$usage" "$explain seven.rg seven.rg"
+expect 'explain: three files' 2 '' "$usage" "$explain seven.rg a b"
 expect 'explain: an option that is none' 2 '' "$usage" "$explain --what"
 expect 'explain: an empty name' 2 '' "$usage" "$explain ''"
-expect 'explain: --help' 0 '*--run*' '' "$explain --help"
+expect 'explain: --help' 0 '*--trap*' '' "$explain --help"
 expect 'explain: a missing file' 5 '' 'source fault: missing.rg: No such file or directory' "$explain missing.rg"
 expect 'explain: a folder' 5 '' 'source fault: folder: Is a directory' "$explain folder"
 expect 'explain: a name that is no UTF-8' 5 '' 'source fault: *: No such file or directory' "$explain \$'\\xff.rg'"
-expect 'explain: an empty file' 1 '*The source ends here; there could stand `class`, `tmp` or `main`.*' 'E10 syntax at line 1' "$explain empty.rg"
+expect 'explain: an empty file' 1 '*A program ends with `main`*The source ends here.*' 'E10 syntax at line 1' "$explain empty.rg"
 expect 'explain: nothing is wrong' 0 accepted '' "$explain seven.rg"
 expect 'explain: a fault' 1 '*>     3    print totl;*^^^^*What is visible, the nearest first: `total: int`.*`print total;`*## E20 unknown*' 'E20 unknown at line 3' "$explain fault.rg"
 expect 'explain: a pipe' 1 '*`total: int`*' 'E20 unknown at line 3' "cat fault.rg | $explain /dev/stdin"

@@ -78,7 +78,7 @@ class Writer:
         self.reader, self.code, self.tree, self.script, self.counts = reader, reader.code, tree, script, []
         self.edits, self.notes, self.pre, self.env, self.used = [], [], [], {}, set(re.findall(r"[A-Za-z_]\w*", reader.code))
         self.loop, self.result, self.home, self.method = None, None, None, None
-        self.classes = {it.name: it for it in tree.some if it.kind == "class"}
+        self.classes = {it.name: it for it in reversed(tree.some) if it.kind == "class"}
 
     # -- What is there
 
@@ -1127,6 +1127,17 @@ class Writer:
     def on_class(self, node):
         before, self.home = self.home, node
         if node.element:
+            return
+        other = self.classes.get(node.name)
+        if node.word == "impl" and other is not None and other is not node and other.shuts is not None:
+            self.note(node.start, ABOUT["impl"])
+            self.home = other
+            for it in node.some:
+                self.stmt(it)
+            said = self.render(node.some[0].start, node.some[-1].end) if node.some else ""
+            self.replace(node.start, node.end, "")
+            self.insert(other.shuts.start, said + "\n")
+            self.home = before
             return
         if node.word in ("enum", "trait", "interface", "protocol", "impl", "namespace", "mod", "module", "union"):
             raise Cannot(node.start, ABOUT.get(node.word, ""))

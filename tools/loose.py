@@ -575,7 +575,7 @@ class Reader:
         inner = self.toks[self.k:self.closed(self.k)] if opens else self.toks[self.k:self.k + 40]
         if opens:
             self.take()
-        brace = next((it.start for it in inner if it.text in ("{", "}")), len(self.code))
+        brace = next((it.start for it in inner if it.text in ("{", "}") or it.is_fresh and not opens), len(self.code))
         if any(it.text == ";" and it.start < brace for it in inner):
             first = self.statement() if not self.take(";") else None
             test = None if self.at(";") else self.head()

@@ -695,6 +695,9 @@ def of_other_type(case, e, type, got, what):
     edits, is_plain = [], e.kind in ("name", "path")
     if got in START and (type in START):
         name = node.names[0] if node.kind == "let" else case.src(node.lefts[0]) if node.kind == "assign" else None
+        if got == "bool" and node.kind == "assign":      # x + b, where a truth value counts as 1
+            said.append("A truth value is no number: an `if` decides what is added.")
+            edits.append(case.whole(f"if {src} {{ {case.replaced(e, '1')} }}"))
         if type == "bool":
             edits += put([f"{src} != 0" if is_plain or e.kind == "number" else f"({src}) != 0"])
         elif name and e is (node.right if node.kind == "let" else node.rights[0]):
@@ -1024,7 +1027,7 @@ def of_iso_field(case):
         if member is None or member.kind != "field" or member.type[0] != "iso":
             continue
         field, type = case.src(e), " ".join(member.type)
-        said = [f"The field `{field}` owns its region (`{type}`): it is never copied or assigned: `swap` exchanges it with a variable, and `enter` opens it where it is."]
+        said = [f"The field `{field}` owns its region (`{type}`): it is neither copied nor assigned. `swap` exchanges it with a variable, and `enter` opens it where it is."]
         g = case.fresh("out", "taken")
         if use == "target":
             right = node.rights[0]
