@@ -76,7 +76,7 @@ class Writer:
 
     def __init__(self, reader, tree, script):
         self.reader, self.code, self.tree, self.script, self.counts = reader, reader.code, tree, script, []
-        self.edits, self.notes, self.pre, self.env, self.used = [], [], [], {}, set(re.findall(r"[A-Za-z_]\w*", reader.code))
+        self.edits, self.notes, self.pre, self.post, self.env, self.used = [], [], [], [], {}, set(re.findall(r"[A-Za-z_]\w*", reader.code))
         self.loop, self.result, self.home, self.method = None, None, None, None
         self.classes = {it.name: it for it in reversed(tree.some) if it.kind == "class"}
 
@@ -297,7 +297,10 @@ class Writer:
         return f"{of}[{self.value(e.at)}]", 8
 
     def value_step(self, e):
-        raise Cannot(e.start, "")
+        of = self.value(e.of, 8)
+        self.note(e.start, f"There is no `{e.op * 2}` inside of an expression: `{of} = {of} {e.op} 1;` is a statement.")
+        self.post.append(f"{of} = {of} {e.op} 1;")
+        return of, 8
 
     def value_unary(self, e):
         if e.op in ("&", "*"):
@@ -573,7 +576,7 @@ class Writer:
 
     def put(self, node, *said):
         """Writes a statement, behind what it needs in front of it."""
-        some = [*self.ahead(), *(it for it in said if it)]
+        some, self.post = [*self.ahead(), *(it for it in said if it), *self.post], []
         if said and not node.__dict__.get("semi", True) and self.code[node.end:node.end + 1] != ";":
             self.note(node.end, "A statement ends with `;`.")
         self.replace(node.start, node.end, self.line_break(node.start).join(some))
@@ -635,10 +638,7 @@ class Writer:
         return new
 
     def target(self, e):
-        said = self.value(e, 8)
-        if self.pre and e.kind != "index":
-            raise Cannot(e.start, "")
-        return said
+        return self.value(e, 8)
 
     def on_assign(self, node):
         lefts, rights, op = node.lefts, node.rights, node.op

@@ -160,7 +160,7 @@ class Reader:
                     left = Node("is_nil", left.start, of=left, no=no, word=self.take().text)
                 else:
                     left = Node("compare", left.start, first=left, rest=[("!=" if no else "==", self.expr(5), it.start)])
-            elif op in ("in", "instanceof") and least <= 4 and not self.plain or op == "not" and self.tok(1).text == "in" and least <= 4:
+            elif op in ("in", "instanceof") and least <= 4 or op == "not" and self.tok(1).text == "in" and least <= 4:
                 no = bool(self.take("not"))
                 self.take()
                 left = Node("within", left.start, of=left, no=no, row=self.expr(5))
@@ -457,9 +457,12 @@ class Reader:
     def declared(self, start, names, type, word=""):
         node = Node("let", start, names=names, type=type, right=None, word=word)
         if self.take("=", ":="):
-            node.right = self.expr()
-            while self.take(","):
-                node.right = Node("raw", start, why=",") if self.expr() else None
+            node.right, rights = self.expr(), []
+            while self.take(","):      # int a = 1, b = 2;
+                rights = rights or [(None, node.right)]
+                names.append(self.take().text)
+                rights.append((None, self.expr() if self.take("=") else Node("number", start, said="0")))
+                node.right = Node("list", start, args=rights, sign=",")
         return self.ended(node)
 
     def typed(self, start):

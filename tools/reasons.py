@@ -720,6 +720,9 @@ def of_other_type(case, e, type, got, what):
         if type in ("bool", "shown"):
             edits += put([f"not {src} is nil", f"{src} is nil"])
         return said, edits
+    if " " in type and got in START:
+        said.append("A reference leads to an object, or is nil.")
+        return said, put([f"new {type.split()[1]}", "nil"])
     if " " not in type or " " not in got:
         return said, edits
     (cap, of), (mine, its) = type.split(), got.split()
@@ -759,6 +762,10 @@ def of_other_type(case, e, type, got, what):
         if node.kind == "assign" and node.lefts[0].kind == "name":
             it = case.declared(node.lefts[0].name)
             edits += [(*it.cap, mine)] if it is not None and it.cap else []
+        elif node.kind == "assign" and node.lefts[0].kind == "path" and mine in ("mut", "imm"):
+            member = case.names.member(case.type(node.lefts[0].of), node.lefts[0].name)[0]
+            m = re.compile(rf"\b{node.lefts[0].name}\s*:\s*(\w+)").search(case.code, member.start) if member is not None else None
+            edits += [(m.start(1), m.end(1), mine)] if m else []
         method = next((case.names.member(case.type(one.of.of), one.of.name)[0] for one in every(node) if one.kind == "call" and one.of.kind == "path" and any(arg is e for _, arg in one.args)), None)
         if method is not None and method.kind == "method":
             m = re.search(rf"\b{re.escape(what.split('`')[1])}\s*:\s*(\w+)", case.code[method.start:method.head])
