@@ -7,15 +7,22 @@ use Rattle.rg_run.specs.Asked.{Asks}
 use Rattle.rg_run.specs.Machine.{Kept}
 use Rattle.rg_alike.specs.Standing.{RunStands}
 use Rattle.rg_words.specs.declared.status.Status.{Status}
-use Rattle.rg_words.specs.Commands.{Command, exec, in_module, origin_of, every_of}
+use Rattle.rg_words.specs.Commands.{Command, run, plain, fmt, check, code, pack, bulk, exec, when, in_module, origin_of, every_of}
 use Rattle.rg_words.specs.Commands.{is_scheduled}
 use Rattle.rg_sources.specs.Sources.{Sources, Runs}
 use Rattle.rg_commands.specs.Asked.{AsksOver, RunAsks, Unasked, input_for, tuned_to}
 
 -- a run of it stands on the machine behind so many steps
 abbrev pub StandsForEach : Command → (source : Sources) (input : List ℕ) → (n : ℕ) → Kept → Type 0
+StandsForEach (run slides file steps every report) source input n m = ⊤
+StandsForEach (plain file steps) source input n m = ⊤
+StandsForEach (fmt file) source input n m = ⊤
+StandsForEach (check file) source input n m = ⊤
+StandsForEach (code file) source input n m = ⊤
+StandsForEach (pack file) source input n m = ⊤
+StandsForEach (bulk size) source input n m = ⊤
+StandsForEach (when file plan keep) source input n m = ⊤
 StandsForEach (exec file steps every report) source input n m = (t : Tree) → Runs (in_module file) source t → RunStands t input n m
-StandsForEach c source input n m = ⊤
 
 -- its run asked the pacers so often
 pub record AsksSo (t : Tree) (input : List ℕ) (m : Kept) (first last : Asks) : Type 0 where
@@ -24,8 +31,15 @@ pub record AsksSo (t : Tree) (input : List ℕ) (m : Kept) (first last : Asks) :
   pub trace : AsksOver t input m.steps Trace first.trace.asks last.trace.asks
 
 abbrev pub AsksForEach : Command → (source : Sources) (input : List ℕ) → Kept → (first last : Asks) → Type 0
+AsksForEach (run slides file steps every report) source input m first last = ⊤
+AsksForEach (plain file steps) source input m first last = ⊤
+AsksForEach (fmt file) source input m first last = ⊤
+AsksForEach (check file) source input m first last = ⊤
+AsksForEach (code file) source input m first last = ⊤
+AsksForEach (pack file) source input m first last = ⊤
+AsksForEach (bulk size) source input m first last = ⊤
+AsksForEach (when file plan keep) source input m first last = ⊤
 AsksForEach (exec file steps every report) source input m first last = (p : Tree) → Runs (in_module file) source p → AsksSo p input m first last
-AsksForEach c source input m first last = ⊤
 
 -- What the pacers tell behind a call that has begun a run, where they told these before it: they were tuned to the number of the command, and then the run
 -- asked them, which is one of each program that the source means.

@@ -54,15 +54,19 @@ RunStands t input n m = (tables : Tables) × (program_of tables ≡ t) × Stands
 abbrev pub Leaves : Command → (input : List ℕ) → Meaning → Kept → (still : Type 0) → Type 0
 Leaves c input too_long m still = IsFresh m × still
 Leaves c input (faulty f) m still = IsFresh m × still
+Leaves c input (planned t p images) m still = IsFresh m
 Leaves (run slides file n every report) input (spelt t) m still =
     IfAccepted (first_fault t) (RunStands t input n m × (NeverAsks t input n → still)) (IsFresh m × still)
 Leaves (plain file n) input (spelt t) m still =
     IsFresh m × IfAccepted (first_fault t) (IsSound t input n × (NeverAsks t input n → still)) still
 Leaves (fmt file) input (spelt t) m still = IsFresh m × ParsesBack t
+Leaves (check file) input (spelt t) m still = IsFresh m
+Leaves (code file) input (spelt t) m still = IsFresh m
+Leaves (pack file) input (spelt t) m still = IsFresh m
 Leaves (bulk size) input (spelt t) m still = RunStands t [] MOST_STEPS m
 Leaves (exec file n every report) input (spelt t) m still =
     IfAccepted (first_fault t) (RunStands t input n m × (NeverAsks t input n → still)) (IsFresh m × still)
-Leaves c input k m still = IsFresh m
+Leaves (when file plan keep) input (spelt t) m still = IsFresh m
 
 -- A command has answered this status to one source and one input: the source means something, of which this status and this
 -- text are expected; the output has taken that text and nothing else; and the rest is left as it must be for that meaning.
@@ -94,20 +98,32 @@ steps_asked (Some c) = steps_of c
 -- The lines of collections that the notes take before the text of a status. Without a report, none. With one, those of a run that came to its end or
 -- to a fault of the input; for want of memory the last one may be missing, and where the output or the notes failed any part of it may be there.
 abbrev pub IsBefore : (report : Bool) → Status → List Event → (lines : List ℕ) → Type 0
+IsBefore false s events lines = lines ≡ []
 IsBefore true status.Done events lines = lines ≡ event_lines events
+IsBefore true (status.Refused f) events lines = lines ≡ []
+IsBefore true status.Usage events lines = lines ≡ []
 IsBefore true (status.Trap kind line) events lines = lines ≡ event_lines events
 IsBefore true status.Spent events lines = lines ≡ event_lines events
+IsBefore true (status.Away n) events lines = lines ≡ []
+IsBefore true status.SourceFault events lines = lines ≡ []
 IsBefore true status.InputFault events lines = lines ≡ event_lines events
 IsBefore true status.OutputFault events lines = AreCutLines events lines
 IsBefore true status.Memory events lines = (k : ℕ) × (length events ≤ k + 1) × (lines ≡ event_lines (take k events))
-IsBefore report s events lines = lines ≡ []
+IsBefore true status.Long events lines = lines ≡ []
 
 -- the line behind the text of a status: the numbers of a run that came to its end
 abbrev pub line_after : Status → EndNumbers → List ℕ
 line_after status.Done n = end_line n
+line_after (status.Refused f) n = []
+line_after status.Usage n = []
 line_after (status.Trap kind line) n = end_line n
 line_after status.Spent n = end_line n
-line_after s n = []
+line_after (status.Away k) n = []
+line_after status.SourceFault n = []
+line_after status.InputFault n = []
+line_after status.OutputFault n = []
+line_after status.Memory n = []
+line_after status.Long n = []
 
 -- what the notes take of a status behind the lines of collections: its text, with a report also the line behind it
 abbrev pub text_behind : (report : Bool) → (steps : ℕ) → Kept → Status → List ℕ
@@ -150,12 +166,17 @@ IsExpected told left words s = ForSource told left words (λ c source input. Exp
 -- A status that a call may tell: one that is expected; that the words are no command, where they are none; a fault of the source or of the input,
 -- where it came; and want of memory.
 abbrev pub MayTell : Option Told → (left : Option (List ℕ)) → (words : List (List ℕ)) → (source_failed input_failed : Type 0) → Status → Type 0
+MayTell told left words source_failed input_failed status.Done = IsExpected told left words status.Done
+MayTell told left words source_failed input_failed (status.Refused f) = IsExpected told left words (status.Refused f)
 MayTell told left words source_failed input_failed status.Usage = command words ≡ None
+MayTell told left words source_failed input_failed (status.Trap kind line) = IsExpected told left words (status.Trap kind line)
+MayTell told left words source_failed input_failed status.Spent = IsExpected told left words status.Spent
+MayTell told left words source_failed input_failed (status.Away n) = IsExpected told left words (status.Away n)
 MayTell told left words source_failed input_failed status.SourceFault = source_failed
 MayTell told left words source_failed input_failed status.InputFault = input_failed
 MayTell told left words source_failed input_failed status.OutputFault = ⊥
 MayTell told left words source_failed input_failed status.Memory = ⊤
-MayTell told left words source_failed input_failed s = IsExpected told left words s
+MayTell told left words source_failed input_failed status.Long = IsExpected told left words status.Long
 
 -- this status is answered exactly where the fact holds, unless the call was cut off from outside
 abbrev pub Exactly : Status → Status → Type 0 → Type 0
