@@ -3,7 +3,6 @@ use Rattle.std.proofs.Common.{◌≡◌, ◌≢◌, ℕ, suc, ◌<◌, ◌≤◌
 use Rattle.std.proofs.Common.{[], ◌∙◌, ap, subst, arith}
 use Rattle.std.specs.Bool.{OnTrue, OnFalse}
 use Rattle.std.proofs.lemmas.List.{length-replicate, append-nil}
-use Rattle.rg_base.specs.declared.fault.Fault.{Fault}
 use Rattle.rg_io.specs.Content.{Rose}
 use Rattle.rg_io.specs.Files.{Told, BegunAre}
 use Rattle.rg_io.proofs.Content.{Rose-since}
@@ -13,11 +12,9 @@ use Rattle.rg_words.specs.declared.status.Status.{Status}
 use Rattle.rg_words.specs.declared.status.Status.TheVariants as status
 use Rattle.rg_words.specs.Commands.{Command, command, origin_of, runs_on, may_run, reads_input, may_read, opens_file, may_open}
 use Rattle.rg_words.specs.Commands.{may_schedule, is_scheduled, every_of, keep_of}
-use Rattle.rg_words.specs.Commands.{run, plain, fmt, check, code, pack, bulk, exec, when}
 use Rattle.rg_words.specs.Statuses.{is_answer, is_refusal, is_cut_off, is_from_outside, IsBadSchedule}
 use Rattle.rg_words.specs.Answers.{HasInput, ForInput}
-use Rattle.rg_rules.specs.Acceptance.{first_fault}
-use Rattle.rg_sources.specs.Sources.{Sources, HasSource, Meaning, too_long, faulty, spelt, planned}
+use Rattle.rg_sources.specs.Sources.{Sources, HasSource}
 use Rattle.rg_sources.specs.Opens.{Opens}
 use Rattle.rg_commands.specs.Expected.{ExpectsStatus}
 use Rattle.rg_commands.specs.CutOff.{Untouched, CutOffAt, CutAtInput}
@@ -27,7 +24,6 @@ use Rattle.rg_commands.specs.Settled.{Tunes, Chooses}
 use Rattle.rg_commands.proofs.Asked.{asked-behind}
 use Rattle.rg_commands.proofs.Meaning.{expects-one, plan-needed, refusal-any}
 use Rattle.rg_top.specs.Headline.{ForSource, Exactly, ExactlyWhere, Answers, IsExpected, MayTell, UnlessSchedule, OpensBy, Chosen, FaultsRose}
-use Rattle.rg_top.specs.Headline.{IfAccepted, IsMachineOf, Leaves}
 use Rattle.rg_commands.specs.Laws.{OneAnswer}
 use Rattle.rg_top.specs.Inner.Told.{Becomes}
 use Rattle.rg_top.proofs.Settled.{answers-of, cut-of, status-of, schedule-of, schedule-cut, schedule-input, schedule-status, schedule-refused}
@@ -509,43 +505,6 @@ pub answers-expected : (told : Option Told) (left : Option (List ℕ)) (words : 
     Answers c source input s old new m still × Q c source input)) →
     OnTrue (is_answer s) (IsExpected told left words s)
 answers-expected told left words s old new m still Q h = on-true _ _ (is_answer s) h (expects-of told left words s old new m still Q)
-
--- the one of two facts that the checker's answer chooses, weakened
-if-any : (o : Option Fault) (A B C D : Type 0) → (A → C) → (B → D) → IfAccepted o A B → IfAccepted o C D
-if-any None A B C D f g h = f h
-if-any (Some x) A B C D f g h = g h
-
--- what was left beside a text is left, whatever is said of the input
-leaves-any : (c : Command) (input : List ℕ) (k : Meaning) (m : Kept) (still : Type 0) → Leaves c input k m still → Leaves c input k m (Unit {0})
-leaves-any c input too_long m still h = (h.0, tt)
-leaves-any c input (faulty f) m still h = (h.0, tt)
-leaves-any c input (planned t p images) m still h = h
-leaves-any (run slides file n every report) input (spelt t) m still h = if-any (first_fault t) _ _ _ _ (λ x. (x.0, λ none. tt)) (λ x. (x.0, tt)) h
-leaves-any (plain file n) input (spelt t) m still h = (h.0, if-any (first_fault t) _ _ _ _ (λ x. (x.0, λ none. tt)) (λ x. tt) h.1)
-leaves-any (fmt file) input (spelt t) m still h = h
-leaves-any (check file) input (spelt t) m still h = h
-leaves-any (code file) input (spelt t) m still h = h
-leaves-any (pack file) input (spelt t) m still h = h
-leaves-any (bulk size) input (spelt t) m still h = h
-leaves-any (exec file n every report) input (spelt t) m still h = if-any (first_fault t) _ _ _ _ (λ x. (x.0, λ none. tt)) (λ x. (x.0, tt)) h
-leaves-any (when file plan keep) input (spelt t) m still h = h
-
--- so a machine is that of a call that has answered
-machine-of : (words : List (List ℕ)) (s : Status) (old new : Option (List ℕ)) (m : Kept) (still : Type 0) (Q : Command → Sources → List ℕ → Type 0) →
-    ForSource None None words (λ c source input. Answers c source input s old new m still × Q c source input) → IsMachineOf words s m
-machine-of words s old new m still Q (c, source, asked, has, (input, is, (a, each))) =
-    (c, source, asked, has, (input, is, (a.meaning, a.means, (a.text, a.expects), leaves-any c input a.meaning m still a.leaves)))
-
-pub answers-machine : (words : List (List ℕ)) (s : Status) (old new : Option (List ℕ)) (m : Kept) (still : Type 0)
-    (Q : Command → Sources → List ℕ → Type 0) → OnTrue (is_answer s) (ForSource None None words (λ c source input.
-    Answers c source input s old new m still × Q c source input)) → OnTrue (is_answer s) (IsMachineOf words s m)
-answers-machine words s old new m still Q h = on-true _ _ (is_answer s) h (machine-of words s old new m still Q)
-
--- a call that has told want of memory has answered nothing
-pub memory-machine : (words : List (List ℕ)) (s : Status) (m : Kept) → (s ≡ status.Memory) ⊎ (s ≡ status.OutputFault) →
-    OnTrue (is_answer s) (IsMachineOf words s m)
-memory-machine words s m (inl e) = subst (λ (x : Status). OnTrue (is_answer x) (IsMachineOf words x m)) (sym e) tt
-memory-machine words s m (inr e) = subst (λ (x : Status). OnTrue (is_answer x) (IsMachineOf words x m)) (sym e) tt
 
 -- a status that may be told of sources and inputs that failed may be told of any
 pub may-any : (told : Option Told) (left : Option (List ℕ)) (words : List (List ℕ)) (F I : Type 0) (s : Status) → s ≢ status.OutputFault →

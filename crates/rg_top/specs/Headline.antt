@@ -79,13 +79,6 @@ pub record Answers (c : Command) (source : Sources) (input : List ℕ) (s : Stat
   pub wrote : Appends old new text
   pub leaves : Leaves c input meaning m still
 
--- A machine is that of a call whose status is an answer, of some bytes that its files and its input may have had: the status is that of what is
--- expected of them, where the machine has its numbers, and a run stands on it as it must.
-abbrev pub IsMachineOf : (words : List (List ℕ)) → Status → Kept → Type 0
-IsMachineOf words s m = ForSource None None words (λ c source input.
-    (meaning : Meaning) × MeansFrom (origin_of c) source meaning
-    × ((text : List ℕ) × (expected c (numbers_of m) input meaning ≡ record { status = s; text = text })) × Leaves c input meaning m (Unit {0}))
-
 -- a refusal leaves the input as it was, but where it is that of a schedule
 abbrev pub UnlessSchedule : Option Command → Status → (still : Type 0) → Type 0
 UnlessSchedule o s still = ((may_schedule o ≡ true) × IsBadSchedule s) ⊎ still
