@@ -26,12 +26,10 @@ use Rattle.rg_commands.specs.Asked.{IsQuiet, RunAsks, SayYes, Unasked, YesesOf, 
 use Rattle.rg_words.specs.declared.status.Status.{Status}
 use Rattle.rg_words.specs.declared.status.Status.TheVariants as status
 use Rattle.rg_words.specs.Statuses.{is_cut_off}
-use Rattle.rg_words.specs.Commands.{Command, Origin}
-use Rattle.rg_words.specs.Answers.{Answer, ForInput, PutLine}
-use Rattle.rg_sources.specs.Sources.{Sources, Runs}
-use Rattle.rg_when.specs.Scheduled.{SettlesBy}
-use Rattle.rg_commands.specs.Settled.{DoesCommand, RanFrom, RunAsked, SettlesCommand}
-use Rattle.rg_commands.proofs.Ran.{run-from}
+use Rattle.rg_words.specs.Commands.{Origin, generated}
+use Rattle.rg_words.specs.Answers.{ForInput, PutLine}
+use Rattle.rg_sources.specs.Sources.{Sources, HasSource, Runs}
+use Rattle.rg_commands.specs.Settled.{AskedCommand, AskedFrom, RunAsked}
 
 -- a run stands on the machine behind its whole steps, as it does behind all that were allowed
 stands-whole : (t : Tables) (input : List ℕ) (n : ℕ) (m : Kept) → Accepted (program_of t) → Shows t m (plain (program_of t) input n).state →
@@ -62,63 +60,44 @@ quiet-same old new e = e ∙ ap (with_tune old) (sym (ap (λ (a : Asked). a.tune
 pub unasked : (m : Kept) (every : ℕ) (a : Asks) → IsFresh m → Unasked m (tuned_to every a) a
 unasked m every a fresh = record { fresh = fresh; count = refl; trace = refl }
 
--- the source of an input has some bytes
-pub some-input : (left : Option (List ℕ)) (P : List ℕ → Type 0) → ((input : List ℕ) → P input) → ForInput left P
-some-input None P h = ([], tt, h [])
-some-input (Some bytes) P h = (bytes, refl, h bytes)
-
--- one that has nothing left has none
-pub on-empty : (P : List ℕ → Type 0) → ForInput (Some []) P → P []
-on-empty P h = subst P (sym h.1) h.2
-
 -- a run on the machine
-pub asked-from : (origin : Origin) (n : ℕ) (source : Sources) (input rest : List ℕ) (t : Tables) (code : Code) (m : Kept) (e : Ended)
-    (old new : Option (List ℕ)) (quiet : Type 0) (first last : Asks) → Lowers (program_of t) code → Runs origin source (program_of t) →
-    WholeRun t code n old new m e quiet first last input rest → RunAsked origin source input (status_of_ended e) m first last
-asked-from origin n source input rest t code m e old new quiet first last lowers runs h =
-    elim h.ran [
-      | inl none ↦ (let same = h.unasked none.fresh.begun in inl (record {
+pub asked-from : (origin : Origin) (n : ℕ) (source : Sources) (left : Option (List ℕ)) (t : Tables) (code : Code) (m : Kept) (e : Ended)
+    (old new : Option (List ℕ)) (quiet : Type 0) (first last : Asks) →
+    Lowers (program_of t) code → Runs origin source (program_of t) →
+    ForInput left (λ input. (rest : List ℕ) × WholeRun t code n old new m e quiet first last input rest) →
+    RunAsked origin source left (status_of_ended e) m first last
+asked-from origin n source left t code m e old new quiet first last lowers runs h =
+    elim h.2.1.ran [
+      | inl none ↦ (let same = h.2.1.unasked none.fresh.begun in inl (record {
         fresh = none.fresh;
         count = quiet-same first.count last.count (ap (λ (a : Asks). a.count) same);
         trace = quiet-same first.trace last.trace (ap (λ (a : Asks). a.trace) same);
       }))
-      | inr ran ↦ inr (record {
-        tables = t;
-        runs = runs;
-        stands = stands-at t input n m rest old new e runs.accepted ran.run h.told;
-        count = h.asked.count;
-        trace = h.asked.trace;
-        code = code;
-        lowers = lowers;
-        ended = e;
-        ends = inl refl;
-        rest = rest;
-        states = h.states ran.begun;
-      })
+      | inr ran ↦ inr (
+        h.0,
+        h.1,
+        record {
+          tables = t;
+          runs = runs;
+          stands = stands-at t h.0 n m h.2.0 old new e runs.accepted ran.run h.2.1.told;
+          count = h.2.1.asked.count;
+          trace = h.2.1.asked.trace;
+          code = code;
+          lowers = lowers;
+          ended = e;
+          ends = inl refl;
+          rest = h.2.0;
+          states = h.2.1.states ran.begun;
+        },
+      )
     ]
 
--- what it has answered, and how it asked the pacers, on the same bytes
-pub ran-both : (origin : Origin) (n : ℕ) (source : Sources) (left : Option (List ℕ)) (t : Tables) (code : Code) (m : Kept) (e : Ended)
-    (old new : Option (List ℕ)) (quiet still : Type 0) (first last : Asks) → (quiet → still) → Lowers (program_of t) code →
-    Runs origin source (program_of t) →
-    ForInput left (λ input. (rest : List ℕ) × WholeRun t code n old new m e quiet first last input rest) →
-    ForInput left (λ input. RanFrom origin n source (Some input) (status_of_ended e) old new m still
-    × RunAsked origin source input (status_of_ended e) m first last)
-ran-both origin n source left t code m e old new quiet still first last more lowers runs h = (
-  h.0,
-  h.1,
-  (
-    run-from origin n source (Some h.0) t code m e old new quiet still first last more runs (h.0, refl, h.2),
-    asked-from origin n source h.0 h.2.0 t code m e old new quiet first last lowers runs h.2.1,
-  ),
-)
-
 -- pacers that were tuned first
-pub asked-tuned : (origin : Origin) (source : Sources) (input : List ℕ) (s : Status) (m : Kept) (c d t u : Asked) (last : Asks) → d ≡ c → u ≡ t →
-    RunAsked origin source input s m (both d u) last → RunAsked origin source input s m (both c t) last
-asked-tuned origin source input s m c d t u last count trace h =
-    let P : Asked → Type 0 = λ q. RunAsked origin source input s m (both q u) last in
-    let Q : Asked → Type 0 = λ q. RunAsked origin source input s m (both c q) last in
+pub asked-tuned : (origin : Origin) (source : Sources) (left : Option (List ℕ)) (s : Status) (m : Kept) (c d t u : Asked) (last : Asks) → d ≡ c → u ≡ t →
+    RunAsked origin source left s m (both d u) last → RunAsked origin source left s m (both c t) last
+asked-tuned origin source left s m c d t u last count trace h =
+    let P : Asked → Type 0 = λ q. RunAsked origin source left s m (both q u) last in
+    let Q : Asked → Type 0 = λ q. RunAsked origin source left s m (both c q) last in
     subst Q trace (subst P count h)
 
 -- had said yes as often
@@ -146,10 +125,10 @@ asks-behind origin source input m s q first last (inr cut) h = record {
   states = h.states;
 }
 
-pub asked-behind : (origin : Origin) (source : Sources) (input : List ℕ) (m : Kept) (s q : Status) (first last : Asks) →
-    (q ≡ s) ⊎ (is_cut_off q ≡ true) → RunAsked origin source input s m first last → RunAsked origin source input q m first last
-asked-behind origin source input m s q first last is (inl none) = inl none
-asked-behind origin source input m s q first last is (inr h) = inr (asks-behind origin source input m s q first last is h)
+pub asked-behind : (origin : Origin) (source : Sources) (left : Option (List ℕ)) (m : Kept) (s q : Status) (first last : Asks) →
+    (q ≡ s) ⊎ (is_cut_off q ≡ true) → RunAsked origin source left s m first last → RunAsked origin source left q m first last
+asked-behind origin source left m s q first last is (inl none) = inl none
+asked-behind origin source left m s q first last is (inr h) = inr (h.0, h.1, asks-behind origin source h.0 m s q first last is h.2)
 
 -- a line that was given behind a run that is done
 pub line-cut : (s : Status) (line : List ℕ) (old new : Option (List ℕ)) → PutLine s line old new → (s ≡ status.Done) ⊎ (is_cut_off s ≡ true)
@@ -165,28 +144,23 @@ line-cut status.OutputFault line old new h = inr refl
 line-cut status.Memory line old new h = inr refl
 line-cut status.Long line old new h = absurd h
 
--- where no run has begun, what was answered is that, and the pacers weren't asked
-pub quiet-does : (told : Option Told) (c : Command) (input : List ℕ) (s : Status) (old new : Option (List ℕ)) (m : Kept) (still : Type 0)
-    (first last : Asks) → Unasked m first last → SettlesCommand told c (Some input) s old new m still →
-    DoesCommand told c input s old new m still first last
-quiet-does told c input s old new m still first last none (inl h) = inl (h.0, h.1, record { settles = h.2; asked = inl none })
-quiet-does told c input s old new m still first last none (inr (inl u)) = inr (inl (u, none))
-quiet-does told c input s old new m still first last none (inr (inr r)) = inr (inr r)
+-- an empty input is the only one of a source that has nothing left
+pub asked-generated : (size : ℕ) (source : Sources) (left : Option (List ℕ)) (s : Status) (m : Kept) (first last : Asks) →
+    RunAsked (generated size) source (Some []) s m first last → AskedFrom (generated size) source left s m first last
+asked-generated size source left s m first last (inl none) = inl none
+asked-generated size source left s m first last (inr h) =
+    let P : List ℕ → Type 0 = λ input. RunAsks (generated size) source input m s first last in
+    inr (on-any left (subst P (sym h.1) h.2))
+  where
+    on-any : (l : Option (List ℕ)) → RunAsks (generated size) source [] m s first last →
+        ForInput l (λ input. RunAsks (generated size) source [] m s first last)
+    on-any None asks = ([], tt, asks)
+    on-any (Some bytes) asks = (bytes, refl, asks)
 
--- what was answered to a schedule on an input is that on some bytes that its source has
-pub schedule-on : (expected : List ℕ → Answer) (left : Option (List ℕ)) (s : Status) (old new : Option (List ℕ)) → SettlesBy expected left s old new →
-    ForInput left (λ input. SettlesBy expected (Some input) s old new)
-schedule-on expected left status.Done old new h = (h.0, h.1, (h.0, refl, h.2))
-schedule-on expected left (status.Refused f) old new h = (h.0, h.1, (h.0, refl, h.2))
-schedule-on expected left status.Usage old new h = absurd h
-schedule-on expected left (status.Trap kind line) old new h = absurd h
-schedule-on expected left status.Spent old new h = (h.0, h.1, (h.0, refl, h.2))
-schedule-on expected left (status.Away n) old new h = (h.0, h.1, (h.0, refl, h.2))
-schedule-on expected left status.SourceFault old new h = absurd h
-schedule-on expected left status.InputFault old new h = some-input left _ (λ input. h)
-schedule-on expected left status.OutputFault old new h = (h.0, h.1, (h.0, refl, h.2))
-schedule-on expected left status.Memory old new h = (h.0, h.1, (h.0, refl, h.2))
-schedule-on expected left status.Long old new h = absurd h
+pub asked-command : (told : Option Told) (origin : Origin) (source : Sources) (left : Option (List ℕ)) (s : Status) (m : Kept) (first last : Asks) →
+    HasSource told origin source → AskedFrom origin source left s m first last → AskedCommand told origin left s m first last
+asked-command told origin source left s m first last has (inl none) = inl none
+asked-command told origin source left s m first last has (inr h) = inr (source, has, h)
 
 -- a machine on which no run has begun has no collection
 pub yeses-fresh : (m : Kept) (c d t u : ℕ) → IsFresh m → d ≡ c → u ≡ t → SayYes m c d t u

@@ -249,19 +249,18 @@ Tunes c m count trace = runs_on c ≡ true → ¬ IsFresh m → (count ≡ every
 abbrev pub Chooses : Command → Kept → Type 0
 Chooses c m = ¬ IsFresh m → m.stepper.slides ≡ is_slide c
 
--- how a run of a program that comes from there asked the pacers, on these bytes of an input
-abbrev pub RunAsked : Origin → (source : Sources) (input : List ℕ) → Status → Kept → (first last : Asks) → Type 0
-RunAsked origin source input s m first last = Unasked m first last ⊎ RunAsks origin source input m s first last
+-- how a run of a program that comes from there asked the pacers, on an input that its source has
+abbrev pub RunAsked : Origin → (source : Sources) → (left : Option (List ℕ)) → Status → Kept → (first last : Asks) → Type 0
+RunAsked origin source left s m first last = Unasked m first last ⊎ ForInput left (λ input. RunAsks origin source input m s first last)
 
--- What was answered to a source on these bytes of an input, and how the pacers were asked for it.
-pub record Does (c : Command) (source : Sources) (input : List ℕ) (s : Status) (old new : Option (List ℕ)) (m : Kept) (still : Type 0)
-    (first last : Asks) : Type 0 where
-  pub settles : Settles c source (Some input) s old new m still
-  pub asked : RunAsked (origin_of c) source (input_for (origin_of c) input) s m first last
+-- the same of what a command did with its program
+abbrev pub AskedFrom : Origin → (source : Sources) → (left : Option (List ℕ)) → Status → Kept → (first last : Asks) → Type 0
+AskedFrom origin source left s m first last =
+    Unasked m first last ⊎ ForInput left (λ input. RunAsks origin source (input_for origin input) m s first last)
 
--- What was answered to a command on these bytes of an input, with a source that its program has.
-abbrev pub DoesCommand : Option Told → Command → (input : List ℕ) → Status → (old new : Option (List ℕ)) → Kept → (still : Type 0)
-    → (first last : Asks) → Type 0
-DoesCommand told c input s old new m still first last =
-    ((source : Sources) × HasSource told (origin_of c) source × Does c source input s old new m still first last)
-    ⊎ (((Unread told c s × Untouched m old new still) × Unasked m first last) ⊎ RanSchedule told c (Some input) s old new m)
+-- and of a command, with a source that its program has
+abbrev pub AskedCommand : Option Told → Origin → (left : Option (List ℕ)) → Status → Kept → (first last : Asks) → Type 0
+AskedCommand told origin left s m first last =
+    Unasked m first last
+    ⊎ ((source : Sources) × HasSource told origin source
+    × ForInput left (λ input. RunAsks origin source (input_for origin input) m s first last))

@@ -1,6 +1,6 @@
 -- What is so of each program that raises a module, where a command ran it (docs/promises.md, "The headline"). Of the other commands nothing more is
 -- said: a source means one program.
-use Rattle.std.specs.Prelude.{◌≡◌, ◌⊎◌, ℕ, ⊤, Bool, false, List}
+use Rattle.std.specs.Prelude.{ℕ, ⊤, Bool, List}
 use Rattle.rg_base.specs.declared.words.Manager.TheVariants.{Count, Trace}
 use Rattle.rg_tree.specs.Tree.{Tree}
 use Rattle.rg_run.specs.Asked.{Asks}
@@ -8,9 +8,8 @@ use Rattle.rg_run.specs.Machine.{Kept}
 use Rattle.rg_alike.specs.Standing.{RunStands}
 use Rattle.rg_words.specs.declared.status.Status.{Status}
 use Rattle.rg_words.specs.Commands.{Command, run, plain, fmt, check, code, pack, bulk, exec, when, in_module, origin_of, every_of}
-use Rattle.rg_words.specs.Commands.{is_scheduled}
 use Rattle.rg_sources.specs.Sources.{Sources, Runs}
-use Rattle.rg_commands.specs.Asked.{AsksOver, RunAsks, Unasked, input_for, tuned_to}
+use Rattle.rg_commands.specs.Asked.{AsksOver, RunAsks, input_for, tuned_to}
 
 -- a run of it stands on the machine behind so many steps
 abbrev pub StandsForEach : Command → (source : Sources) (input : List ℕ) → (n : ℕ) → Kept → Type 0
@@ -47,11 +46,3 @@ abbrev pub Paces : Command → (source : Sources) (input : List ℕ) → Kept �
 Paces c source input m s old new =
     RunAsks (origin_of c) source (input_for (origin_of c) input) m s (tuned_to (every_of c) old) new
     × AsksForEach c source input m (tuned_to (every_of c) old) new
-
--- So it is of the run that a call has made of the source on the input. Where no run has begun, the pacers weren't asked; of `when` nothing is said.
-abbrev pub PacesFor : Command → (source : Sources) (input : List ℕ) → Kept → Status → (old new : Asks) → Type 0
-PacesFor c source input m s old new = is_scheduled c ≡ false → Unasked m old new ⊎ Paces c source input m s old new
-
--- what is so of a source and an input beside that: a run of each program that the source means stands on the machine, and the pacers were asked so
-abbrev pub Beside : Command → (source : Sources) (input : List ℕ) → (steps : ℕ) → Kept → Status → (old new : Asks) → Type 0
-Beside c source input n m s old new = StandsForEach c source input n m × PacesFor c source input m s old new

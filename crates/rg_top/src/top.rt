@@ -19,7 +19,7 @@ ghost use Rattle.rg_commands.specs.CutOff.{Untouched, CutOffAt, CutAtInput};
 ghost use Rattle.rg_top.specs.Headline.{ForSource, Exactly, ExactlyWhere, Answers, TookNotes};
 ghost use Rattle.rg_top.specs.Headline.{ToldFault, MayTell, steps_asked, UnlessSchedule, OpensBy};
 ghost use Rattle.rg_top.specs.Headline.{IsEarly, Chosen, FaultsRose};
-ghost use Rattle.rg_top.specs.Each.{Beside};
+ghost use Rattle.rg_top.specs.Each.{StandsForEach, Paces};
 ghost use Rattle.rg_commands.specs.Asked.{Unasked, SayYes};
 
 use crate::laws::{each_runs, packed_runs_as};
@@ -89,8 +89,7 @@ pub fn reggio<F: Files, I: Source, O: Sink, R: Sink>(
         (ForSource (F.told files.old) (I.left input.old) (texts words.now)
         (λ c source bytes.
         Answers c source bytes result (O.taken out.old) (O.taken out.new) machine.new
-        (input.new ≡ input.old) × Beside c source bytes (steps_of c) machine.new result
-        (both (tally count.old) (tally trace.old)) (both (tally count.new) (tally trace.new)))) }
+        (input.new ≡ input.old) × StandsForEach c source bytes (steps_of c) machine.new)) }
     ensures untouched { OnTrue (is_refusal result)
         (Untouched machine.new (O.taken out.old) (O.taken out.new)
         (UnlessSchedule (command (texts words.now)) result (input.new ≡ input.old))) }
@@ -99,13 +98,11 @@ pub fn reggio<F: Files, I: Source, O: Sink, R: Sink>(
         ⊎ ForSource (F.told files.old) (I.left input.old) (texts words.now)
         (λ c source bytes.
         CutOffAt c source bytes machine.new (O.taken out.old) (O.taken out.new)
-        (input.new ≡ input.old) × Beside c source bytes machine.new.steps machine.new result
-        (both (tally count.old) (tally trace.old)) (both (tally count.new) (tally trace.new)))) }
+        (input.new ≡ input.old) × StandsForEach c source bytes machine.new.steps machine.new)) }
     ensures cut_at_input { result ≡ Status.InputFault →
         ForSource (F.told files.old) (I.left input.old) (texts words.now) (λ c source bytes.
         CutAtInput c source bytes machine.new (O.taken out.old) (O.taken out.new)
-        × Beside c source bytes machine.new.steps machine.new result
-        (both (tally count.old) (tally trace.old)) (both (tally count.new) (tally trace.new))) }
+        × StandsForEach c source bytes machine.new.steps machine.new) }
     ensures notes { TookNotes (MayTell (F.told files.old) (I.left input.old) (texts words.now)
         (Rose (F.faults files.old) (F.faults files.new))
         (Rose (I.faults input.old) (I.faults input.new)))
@@ -119,9 +116,11 @@ pub fn reggio<F: Files, I: Source, O: Sink, R: Sink>(
     // What it does with the machine and the pacers.
     ensures chosen { Chosen (command (texts words.now)) machine.new
         (both (tally count.old) (tally trace.old)) (both (tally count.new) (tally trace.new)) }
-    ensures unasked { may_schedule (command (texts words.now)) ≡ false → IsFresh machine.new →
-        Unasked machine.new
-        (both (tally count.old) (tally trace.old)) (both (tally count.new) (tally trace.new)) }
+    ensures asked { may_schedule (command (texts words.now)) ≡ false → Unasked machine.new
+        (both (tally count.old) (tally trace.old)) (both (tally count.new) (tally trace.new))
+        ⊎ ForSource (F.told files.old) (I.left input.old) (texts words.now)
+        (λ c source bytes. Paces c source bytes machine.new result
+        (both (tally count.old) (tally trace.old)) (both (tally count.new) (tally trace.new))) }
     ensures yeses { may_schedule (command (texts words.now)) ≡ false → SayYes machine.new
         (tally count.old).yeses (tally count.new).yeses
         (tally trace.old).yeses (tally trace.new).yeses }

@@ -9,7 +9,7 @@ use Rattle.rg_top.proofs.process.paced.Goals as goal
 
 pub returns-clause-expected : goal.returns-clause-expected
 returns-clause-expected g c =
-    answers-expected None None (texts c.args.words.now) c.reggio.result None None c.reggio.new.machine (c.reggio.new.input ≡ c.new-6.result) _
+    answers-expected None None (texts c.args.words.now) c.reggio.result None None c.reggio.new.machine (c.reggio.new.input ≡ c.new-6.result)
     c.reggio.ensures.answered
 
 pub returns-clause-notes : goal.returns-clause-notes

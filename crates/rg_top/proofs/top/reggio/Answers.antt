@@ -2,7 +2,6 @@
 use Rattle.std.proofs.Common.{◌≡◌, ◌≤◌, ◌⊎◌, ℕ, inl, inr, refl, sym, ap, ◌∙◌, List, Option, subst, arith, rules}
 use Rattle.rg_io.specs.Content.{Rose}
 use Rattle.rg_io.proofs.Content.{Rose-since}
-use Rattle.rg_run.specs.Asked.{both}
 use Rattle.rg_run.specs.Machine.{Kept}
 use Rattle.rg_words.specs.declared.status.Status.TheVariants as status
 use Rattle.rg_words.specs.Commands.{command, texts, may_open, may_read, may_schedule}
@@ -11,11 +10,12 @@ use Rattle.rg_words.specs.Statuses.{is_refusal}
 use Rattle.rg_commands.specs.Settled.{Chooses}
 use Rattle.rg_top.proofs.Answer.{Answered, answer-exactly, answer-refused, answer-complete, answer-unread, answer-unrun, on-false, usage-chosen, usage-faults}
 use Rattle.rg_top.proofs.Answer.{answer-unopened, answer-untouched, answer-output, answer-tuned, answer-usage, given-is, answer-chooses, tuned-moved}
-use Rattle.rg_top.proofs.Answer.{answer-may, answer-unasked, does-moved, usage-exactly, on-fact, answer-opened, usage-opened}
+use Rattle.rg_top.proofs.Answer.{answer-may, settles-moved, usage-exactly, on-fact, answer-opened, usage-opened}
 use Rattle.rg_top.proofs.NoteLines.{asked-notes, asked-fault, unasked-notes, took-moved}
+use Rattle.rg_top.proofs.Asked.{asked-words}
 use Rattle.rg_commands.proofs.Asked.{yeses-fresh}
-use Rattle.rg_top.proofs.Each.{each-answered, each-cut_off, each-cut_at_input}
-use Rattle.rg_top.proofs.top.reggio.Given.{Over, Pacer-dyn}
+use Rattle.rg_top.proofs.Each.{each-answered, each-cut_off, each-cut_at_input, asked-each}
+use Rattle.rg_top.proofs.top.reggio.Given.{Over}
 use Rattle.rg_top.proofs.top.reggio.Goals as goal
 
 -- the answer behind the layers under it, with the output and the machine as the call leaves them
@@ -23,18 +23,12 @@ answered : (g : Over) (c : goal.After-is_owned-in-Some g) {out : Option (List �
     g.O.Sink.taken c.answer-status.new.self.out.now ≡ out → c.answer-status.new.self.machine.now ≡ m →
     Answered (g.F.Files.told c.args.files.now) (g.I.Source.left c.args.input.now) (texts c.args.words.now) c.answer-status.result
     c.tell_behind-told.result (g.O.Sink.taken c.args.out.now) out m (c.answer-status.new.input ≡ c.args.input.now)
-    (both ((Pacer-dyn g c.args.count.now).tally c.args.count.now.1) ((Pacer-dyn g c.args.trace.now).tally c.args.trace.now.1))
-    (both ((Pacer-dyn g c.answer-status.new.count).tally c.answer-status.new.count.1)
-    ((Pacer-dyn g c.answer-status.new.trace).tally c.answer-status.new.trace.1))
-answered g c out_is machine_is =
-    let h = c.answer-status.ensures.settles in record {
-      asked = command_for c.in-Some.task;
-      command_is = c.in-Some.ensures.is;
-      input = h.0;
-      input_is = h.1;
-      does = does-moved _ _ _ _ _ _ _ _ _ _ _ _ out_is machine_is h.2;
-      told_is = c.tell_behind-told.ensures.told;
-    }
+answered g c out_is machine_is = record {
+  asked = command_for c.in-Some.task;
+  command_is = c.in-Some.ensures.is;
+  settles = settles-moved _ _ _ _ _ _ _ _ _ _ out_is machine_is c.answer-status.ensures.settles;
+  told_is = c.tell_behind-told.ensures.told;
+}
 
 -- from which count an output fault comes
 output-cause : (g : Over) (c : goal.After-is_owned-in-Some g) {o n : ℕ} → g.O.Sink.faults c.answer-status.new.self.out.now ≡ o →
@@ -160,14 +154,18 @@ returns-in-None-clause-expected g c = λ s answers. usage-exactly _ _ _ _ s c.in
 pub returns-in-None-clause-whatever_input : goal.returns-in-None-clause-whatever_input
 returns-in-None-clause-whatever_input g c = λ s bytes early. usage-exactly _ _ _ _ s c.in-None.ensures.is c.tell.ensures.told early.answers
 
-pub returns-in-Some-clause-unasked : goal.returns-in-Some-clause-unasked
-returns-in-Some-clause-unasked g c = answer-unasked (answered g c (search rules) (search rules))
+pub returns-in-Some-clause-asked : goal.returns-in-Some-clause-asked
+returns-in-Some-clause-asked g c = λ off.
+    asked-each c.each_runs.ensures _ _ (texts c.args.words.now) _ _ _ _
+    (asked-words _ (texts c.args.words.now) (command_for c.in-Some.task) _ _ _ c.answer-status.new.self.machine.now _ _ _ c.in-Some.ensures.is
+    (search rules) c.tell_behind-told.ensures.told
+    (c.answer-status.ensures.asked (sym (ap may_schedule c.in-Some.ensures.is) ∙ off)))
 
 pub returns-in-Some-clause-yeses : goal.returns-in-Some-clause-yeses
 returns-in-Some-clause-yeses g c = λ off. let said = c.answer-status.ensures.yeses (sym (ap may_schedule c.in-Some.ensures.is) ∙ off) in search rules
 
-pub returns-in-None-clause-unasked : goal.returns-in-None-clause-unasked
-returns-in-None-clause-unasked g c = λ off fresh. record { fresh = c.requires.fresh; count = refl; trace = refl }
+pub returns-in-None-clause-asked : goal.returns-in-None-clause-asked
+returns-in-None-clause-asked g c = λ off. inl (record { fresh = c.requires.fresh; count = refl; trace = refl })
 
 pub returns-in-None-clause-yeses : goal.returns-in-None-clause-yeses
 returns-in-None-clause-yeses g c = λ off. yeses-fresh _ _ _ _ _ c.requires.fresh refl refl
