@@ -6,7 +6,6 @@ use Rattle.std.proofs.lemmas.List.{length-replicate, append-nil}
 use Rattle.rg_io.specs.Content.{Rose}
 use Rattle.rg_io.specs.Files.{Told, BegunAre}
 use Rattle.rg_io.proofs.Content.{Rose-since}
-use Rattle.rg_run.specs.Asked.{Asks}
 use Rattle.rg_run.specs.Machine.{Kept, numbers_of}
 use Rattle.rg_words.specs.declared.status.Status.{Status}
 use Rattle.rg_words.specs.declared.status.Status.TheVariants as status
@@ -21,7 +20,7 @@ use Rattle.rg_commands.specs.CutOff.{Untouched, CutOffAt, CutAtInput}
 use Rattle.rg_commands.specs.Settled.{RanSchedule, Settles, Unread, source_fault, memory, SettlesCommand, Tunes, Chooses}
 use Rattle.rg_commands.proofs.Meaning.{expects-one, refusal-any}
 use Rattle.rg_top.specs.Each.{StandsForEach}
-use Rattle.rg_top.specs.Headline.{ForSource, Exactly, ExactlyWhere, Answers, IsExpected, MayTell, UnlessSchedule, OpensBy, Chosen, FaultsRose}
+use Rattle.rg_top.specs.Headline.{ForSource, Exactly, ExactlyWhere, Answers, IsExpected, MayTell, UnlessSchedule, OpensBy}
 use Rattle.rg_commands.specs.Laws.{OneAnswer}
 use Rattle.rg_top.specs.Inner.Told.{Becomes}
 use Rattle.rg_top.proofs.Settled.{answers-of, cut-of, status-of, schedule-of, schedule-cut, schedule-input, schedule-status, schedule-refused}
@@ -409,31 +408,3 @@ may-any told left words F I status.InputFault n h = tt
 may-any told left words F I status.OutputFault n h = h
 may-any told left words F I status.Memory n h = tt
 may-any told left words F I status.Long n h = h
-
--- words that are no command choose nothing
-pub usage-chosen : (words : List (List ℕ)) (m : Kept) (a : Asks) → command words ≡ None → Chosen (command words) m a a
-usage-chosen words m a none = record {
-  tuned = λ c asked. (let lie : None ≡ Some c = sym none ∙ asked in absurd (cc));
-  untuned = on-false (may_run (command words)) (λ off. (refl, refl));
-  slides = λ c asked. (let lie : None ≡ Some c = sym none ∙ asked in absurd (cc));
-}
-
--- and are answered a fault of the notes alone
-pub usage-faults : (answer : Status) (files input out a b : ℕ) → (answer ≡ status.Usage) ⊎ (answer ≡ status.OutputFault) →
-    (answer ≡ status.OutputFault → (status.Usage ≡ status.OutputFault) ⊎ Rose a b) → a ≤ b →
-    FaultsRose answer files files input input out out a b
-usage-faults answer files input out a b told failed never_falls = record {
-  source_fault = λ i. (elim told [
-    | inl u ↦ (let lie : status.Usage ≡ status.SourceFault = sym u ∙ i in absurd (cc))
-    | inr o ↦ (let lie : status.OutputFault ≡ status.SourceFault = sym o ∙ i in absurd (cc))
-  ]);
-  input_fault = λ i. (elim told [
-    | inl u ↦ (let lie : status.Usage ≡ status.InputFault = sym u ∙ i in absurd (cc))
-    | inr o ↦ (let lie : status.OutputFault ≡ status.InputFault = sym o ∙ i in absurd (cc))
-  ]);
-  output_fault = λ i. (elim (failed i) [ inl lie ↦ absurd (cc) | inr r ↦ inr r ]);
-  files_never_fall = omega arith;
-  input_never_falls = omega arith;
-  out_never_falls = omega arith;
-  notes_never_fall = never_falls;
-}

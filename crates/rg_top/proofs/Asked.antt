@@ -30,15 +30,5 @@ asked-words told words asked left given answer m n old new is same becomes (inl 
 asked-words told words asked left given answer m n old new is same becomes (inr h) =
     let P : Kept → Type 0 = λ q.
     RunAsks (origin_of asked) h.0 (input_for (origin_of asked) h.2.0) q answer (tuned_to (every_of asked) old) new in
-    inr (
-      asked,
-      h.0,
-      is,
-      h.1,
-      (
-        h.2.0,
-        h.2.1,
-        subst P same
-            (asks-behind (origin_of asked) h.0 (input_for (origin_of asked) h.2.0) m given answer _ _ (becomes-cut given answer becomes) h.2.2),
-      ),
-    )
+    inr (asked, h.0, is, h.1, (h.2.0, h.2.1, subst P same
+    (asks-behind (origin_of asked) h.0 (input_for (origin_of asked) h.2.0) m given answer _ _ (becomes-cut given answer becomes) h.2.2)))

@@ -1,27 +1,25 @@
 -- The words of the headline: what a call leaves, and from which cause its answer comes (docs/promises.md).
 use Rattle.std.specs.Prelude.{◌≡◌, ◌≢◌, ℕ, ◌+◌, ◌-◌, ◌<◌, ◌≤◌, Bool, true, false, ◌⊎◌, ⊤, List, [], ◌++◌, take, length, Option, Some, None, IfSome}
-use Rattle.std.specs.Bool.{OnFalse}
 use Rattle.rg_base.specs.declared.fault.Fault.{Fault}
 use Rattle.rg_base.specs.declared.limits.TheConstants.{MOST_STEPS}
 use Rattle.rg_base.specs.declared.event.Event.{Event}
 use Rattle.rg_base.specs.declared.outcome.EndNumbers.{EndNumbers}
 use Rattle.rg_base.specs.Report.{end_line}
-use Rattle.rg_io.specs.Content.{Rose, Appends, AppendsUpTo, IsPrefix}
+use Rattle.rg_io.specs.Content.{Appends, AppendsUpTo, IsPrefix}
 use Rattle.rg_io.specs.Files.{Told}
 use Rattle.rg_tree.specs.Tree.{Tree}
 use Rattle.rg_tree.specs.Rows.Tables.{Tables}
 use Rattle.rg_tree.specs.Rows.RowTrees.{program_of}
 use Rattle.rg_tree.specs.Laws.{ParsesBack}
 use Rattle.rg_rules.specs.Acceptance.{first_fault}
-use Rattle.rg_run.specs.Asked.{Asks, SameTuned}
 use Rattle.rg_run.specs.Machine.{Kept, IsFresh, numbers_of}
 use Rattle.rg_run.specs.Reports.{event_lines, AreCutLines}
 use Rattle.rg_run.specs.Sound.{IsSound, Stands, NeverAsks}
 use Rattle.rg_words.specs.declared.status.Status.{Status}
 use Rattle.rg_words.specs.declared.status.Status.TheVariants as status
 use Rattle.rg_words.specs.Commands.{Command, run, plain, fmt, check, code, pack, bulk, exec, when, command, generated, origin_of, steps_of}
-use Rattle.rg_words.specs.Commands.{may_schedule, runs_on, may_run, every_of, is_slide}
-use Rattle.rg_words.specs.Statuses.{status_text, is_answer, is_refusal, is_from_outside, IsBadSchedule}
+use Rattle.rg_words.specs.Commands.{may_schedule}
+use Rattle.rg_words.specs.Statuses.{status_text, is_from_outside, IsBadSchedule}
 use Rattle.rg_words.specs.Answers.{HasInput, ForInput}
 use Rattle.rg_sources.specs.Sources.{Sources, Meaning, too_long, faulty, spelt, planned, HasSource, MeansFrom}
 use Rattle.rg_sources.specs.Opens.{Opens}
@@ -183,27 +181,3 @@ pub record ExactlyWhere (told : Option Told) (left : Option (List ℕ)) (words :
   pub always : (c : Command) → command words ≡ Some c →
       ((source : Sources) (input : List ℕ) → HasSource told (origin_of c) source → HasInput left input → ExpectsStatus c source input s) →
       (answer ≡ s) ⊎ (is_from_outside answer ≡ true)
-
--- a refusal that comes whatever the input has: it is none of a schedule
-pub record IsEarly (o : Option Command) (s : Status) : Type 0 where
-  pub answers : is_answer s ≡ true
-  pub refuses : is_refusal s ≡ true
-  pub unscheduled : may_schedule o ≡ true → ¬ IsBadSchedule s
-
--- What a call chooses for the run that it begins: both pacers are tuned to the command's number, and what is kept moves for `slide` alone. A command
--- that runs nothing on the machine that is handed in tunes no pacer.
-pub record Chosen (o : Option Command) (m : Kept) (old new : Asks) : Type 0 where
-  pub tuned : (c : Command) → o ≡ Some c → runs_on c ≡ true → ¬ IsFresh m → (new.count.tuned ≡ every_of c) × (new.trace.tuned ≡ every_of c)
-  pub untuned : OnFalse (may_run o) (SameTuned old new)
-  pub slides : (c : Command) → o ≡ Some c → ¬ IsFresh m → m.stepper.slides ≡ is_slide c
-
--- A call names a fault of the source or of the input only where its count rose, and one of the output only where its own count or that of the notes
--- rose; and no count falls.
-pub record FaultsRose (s : Status) (files_old files_new input_old input_new out_old out_new notes_old notes_new : ℕ) : Type 0 where
-  pub source_fault : s ≡ status.SourceFault → Rose files_old files_new
-  pub input_fault : s ≡ status.InputFault → Rose input_old input_new
-  pub output_fault : s ≡ status.OutputFault → Rose out_old out_new ⊎ Rose notes_old notes_new
-  pub files_never_fall : files_old ≤ files_new
-  pub input_never_falls : input_old ≤ input_new
-  pub out_never_falls : out_old ≤ out_new
-  pub notes_never_fall : notes_old ≤ notes_new
