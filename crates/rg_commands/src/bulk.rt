@@ -57,7 +57,7 @@ impl<O: Sink, R: Sink> Setting<'_, O, R> {
         ensures tuned { TunedTo 0 (tally count.new) (tally trace.new) }
         ensures asked { (source : Sources) →
             Runs (generated size) source (program_of accepted.now.program) →
-            RunAskedOf (generated size) 0 source (Some []) result self.new.machine.now
+            RunAskedOf (generated size) source (Some []) self.new.machine.now
             (tally count.old) (tally count.new) (tally trace.old) (tally trace.new) }
         ensures yeses { SayYesOf self.new.machine.now
             (tally count.old) (tally count.new) (tally trace.old) (tally trace.new) }
@@ -97,7 +97,7 @@ impl<O: Sink, R: Sink> Setting<'_, O, R> {
             TunedTo 0 (tally count.new) (tally trace.new) }
         ensures asked { (source : Sources) →
             MeansFrom (generated size) source (spelt (program_of program)) →
-            RunAskedOf (generated size) 0 source (Some []) result self.new.machine.now
+            RunAskedOf (generated size) source (Some []) self.new.machine.now
             (tally count.old) (tally count.new) (tally trace.old) (tally trace.new) }
         ensures yeses { SayYesOf self.new.machine.now
             (tally count.old) (tally count.new) (tally trace.old) (tally trace.new) }

@@ -6,7 +6,7 @@ ghost use Rattle.rg_io.specs.Content.{Rose};
 ghost use Rattle.rg_io.specs.Files.{BegunAre};
 ghost use Rattle.rg_run.specs.Asked.{SameTuned, both};
 ghost use Rattle.rg_words.specs.Commands.{origin_of, opens_file, reads_input, is_slide};
-ghost use Rattle.rg_words.specs.Commands.{runs_on, is_scheduled, every_of};
+ghost use Rattle.rg_words.specs.Commands.{runs_on, is_scheduled};
 ghost use Rattle.rg_words.specs.Requests.{command_of, command_for, AsksWithin, TaskWithin};
 ghost use Rattle.rg_sources.specs.Sources.{Sources, spelt, MeansFrom};
 ghost use Rattle.rg_sources.specs.Brings.{Serves};
@@ -44,8 +44,7 @@ impl<O: Sink, R: Sink> Setting<'_, O, R> {
             MeansFrom (origin_of (command_of request.entry)) source (spelt (program_of program)) →
             SettlesIn O.taken (command_of request.entry) source (I.left input.old) result
             self.old self.new (input.new ≡ input.old)
-            × AskedFromOf (origin_of (command_of request.entry))
-            (every_of (command_of request.entry)) source (I.left input.old) result
+            × AskedFromOf (origin_of (command_of request.entry)) source (I.left input.old)
             self.new.machine.now
             (tally count.old) (tally count.new) (tally trace.old) (tally trace.new) }
         ensures reads_nothing { reads_input (command_of request.entry) ≡ false →
@@ -102,7 +101,7 @@ impl<O: Sink, R: Sink> Setting<'_, O, R> {
             (both (tally count.new) (tally trace.new)) }
         ensures slides { Chooses (command_of request.entry) self.new.machine.now }
         ensures asked { AskedCommandOf (F.told files.old) (origin_of (command_of request.entry))
-            (every_of (command_of request.entry)) (I.left input.old) result self.new.machine.now
+            (I.left input.old) self.new.machine.now
             (tally count.old) (tally count.new) (tally trace.old) (tally trace.new) }
         ensures yeses { SayYesOf self.new.machine.now
             (tally count.old) (tally count.new) (tally trace.old) (tally trace.new) }
@@ -147,7 +146,7 @@ impl<O: Sink, R: Sink> Setting<'_, O, R> {
         ensures slides { Chooses (command_for task.entry) self.new.machine.now }
         ensures asked { is_scheduled (command_for task.entry) ≡ false →
             AskedCommandOf (F.told files.old) (origin_of (command_for task.entry))
-            (every_of (command_for task.entry)) (I.left input.old) result self.new.machine.now
+            (I.left input.old) self.new.machine.now
             (tally count.old) (tally count.new) (tally trace.old) (tally trace.new) }
         ensures yeses { is_scheduled (command_for task.entry) ≡ false →
             SayYesOf self.new.machine.now

@@ -33,8 +33,8 @@ impl<O: Sink, R: Sink> Setting<'_, O, R> {
         ensures notes { ReportedIn R.taken options.report result self.old self.new }
         ensures tuned { ¬ IsFresh self.new.machine.now →
             TunedTo options.every (tally count.new) (tally trace.new) }
-        ensures asked { AskedCommandOf (F.told files.old) (in_module file.now) options.every
-            (I.left input.old) result self.new.machine.now
+        ensures asked { AskedCommandOf (F.told files.old) (in_module file.now)
+            (I.left input.old) self.new.machine.now
             (tally count.old) (tally count.new) (tally trace.old) (tally trace.new) }
         ensures yeses { SayYesOf self.new.machine.now
             (tally count.old) (tally count.new) (tally trace.old) (tally trace.new) }

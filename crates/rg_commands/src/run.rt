@@ -9,7 +9,7 @@ ghost use Rattle.rg_words.specs.Commands.{run, Origin, in_file};
 ghost use Rattle.rg_sources.specs.Sources.{Sources, spelt, Means, Runs};
 ghost use Rattle.rg_commands.specs.Setting.{IsUnused, IsLent, SlidesOn, SlidesTo, RanIn, SettlesIn};
 ghost use Rattle.rg_commands.specs.Setting.{ReportedIn, CausedIn, PacedIn};
-ghost use Rattle.rg_commands.specs.Tallies.{TunedTo, RunAskedBy, RunAskedOf, SayYesOf};
+ghost use Rattle.rg_commands.specs.Tallies.{TunedTo, RunAskedOf, SayYesOf};
 
 use crate::ended::status_of;
 use crate::setting::Setting;
@@ -59,7 +59,7 @@ impl<O: Sink, R: Sink> Setting<'_, O, R> {
             Runs origin source (program_of lowered.now.accepted.now.program) →
             RanIn O.taken origin options.steps source (I.left input.old) result
             self.old self.new (input.new ≡ input.old)
-            × RunAskedBy origin source (I.left input.old) result self.new.machine.now
+            × RunAskedOf origin source (I.left input.old) self.new.machine.now
             (tally count.old) (tally count.new) (tally trace.old) (tally trace.new) }
         ensures notes { ReportedIn R.taken options.report result self.old self.new }
         ensures paced { PacedIn self.new
@@ -102,7 +102,7 @@ impl<O: Sink, R: Sink> Setting<'_, O, R> {
         ensures tuned { TunedTo options.every (tally count.new) (tally trace.new) }
         ensures asked { (origin : Origin) (source : Sources) →
             Runs origin source (program_of accepted.now.program) →
-            RunAskedOf origin options.every source (I.left input.old) result self.new.machine.now
+            RunAskedOf origin source (I.left input.old) self.new.machine.now
             (tally count.old) (tally count.new) (tally trace.old) (tally trace.new) }
         ensures yeses { SayYesOf self.new.machine.now
             (tally count.old) (tally count.new) (tally trace.old) (tally trace.new) }
@@ -139,8 +139,7 @@ impl<O: Sink, R: Sink> Setting<'_, O, R> {
             TunedTo options.every (tally count.new) (tally trace.new) }
         ensures asked { (file : List ℕ) (source : Sources) →
             Means source.file (spelt (program_of program)) →
-            RunAskedOf (in_file file) options.every source (I.left input.old) result
-            self.new.machine.now
+            RunAskedOf (in_file file) source (I.left input.old) self.new.machine.now
             (tally count.old) (tally count.new) (tally trace.old) (tally trace.new) }
         ensures yeses { SayYesOf self.new.machine.now
             (tally count.old) (tally count.new) (tally trace.old) (tally trace.new) }

@@ -16,22 +16,22 @@ use Rattle.rg_module.specs.Laws.{SpellsOneModule}
 use Rattle.rg_raised.specs.Raises.{Raises}
 use Rattle.rg_verify.specs.Told.{RaisedAlike}
 use Rattle.rg_rules.specs.Outside.Asks.{asks}
-use Rattle.rg_run.specs.Asked.{Asks, raised}
+use Rattle.rg_run.specs.Asked.{raised}
 use Rattle.rg_run.specs.Machine.{Kept, IsFresh}
 use Rattle.rg_run.specs.Sound.{Stands, NeverAsks}
 use Rattle.rg_alike.specs.Laws.{StandAlike}
 use Rattle.rg_alike.specs.Standing.{RunStands as StandsFor}
 use Rattle.rg_words.specs.declared.status.Status.{Status}
-use Rattle.rg_words.specs.Commands.{Command, run, plain, fmt, check, code, pack, bulk, exec, when, in_module, origin_of, steps_of, every_of}
+use Rattle.rg_words.specs.Commands.{Command, run, plain, fmt, check, code, pack, bulk, exec, when, in_module, origin_of, steps_of}
 use Rattle.rg_sources.specs.Sources.{Sources, Meaning, too_long, faulty, spelt, planned, MeansModule, Runs}
 use Rattle.rg_sources.proofs.Meaning.{no-program}
 use Rattle.rg_commands.specs.CutOff.{Untouched, CutOffAt, CutAtInput}
-use Rattle.rg_commands.specs.Asked.{Unasked, RunAsks, AsksOver, input_for, tuned_to}
+use Rattle.rg_commands.specs.Asked.{Unasked, RunAsks, AsksOver, input_for}
 use Rattle.rg_words.specs.declared.status.Status.TheVariants as status
 use Rattle.rg_words.specs.Statuses.{is_answer, is_cut_off}
 use Rattle.rg_top.proofs.Answer.{Answered, answer-answered, answer-cut, answer-input}
 use Rattle.rg_top.specs.Headline.{ForSource, IfAccepted, RunStands, Leaves, Answers}
-use Rattle.rg_top.specs.Each.{StandsForEach, AsksForEach, AsksSo, Paces}
+use Rattle.rg_top.specs.Each.{StandsForEach, AsksForEach, AsksSo}
 use Rattle.rg_top.specs.Laws.{EachRuns}
 
 -- programs that raise the module of the same bytes are alike
@@ -166,33 +166,33 @@ input-each law told left words m old new h =
     for-source-map told left words P Q (λ c source input a. (a, each-input law c source input m old new a)) h
 
 -- whom it asked
-each-asks : EachRuns → (c : Command) (source : Sources) (input : List ℕ) (m : Kept) (s : Status) (first last : Asks) →
-    RunAsks (origin_of c) source (input_for (origin_of c) input) m s first last → AsksForEach c source input m first last
-each-asks law (run slides file n every report) source input m s first last h = tt
-each-asks law (plain file n) source input m s first last h = tt
-each-asks law (fmt file) source input m s first last h = tt
-each-asks law (check file) source input m s first last h = tt
-each-asks law (code file) source input m s first last h = tt
-each-asks law (pack file) source input m s first last h = tt
-each-asks law (bulk size) source input m s first last h = tt
-each-asks law (when file plan keep) source input m s first last h = tt
-each-asks law (exec file n every report) source input m s first last h =
+each-asks : EachRuns → (c : Command) (source : Sources) (input : List ℕ) (m : Kept) (d e t u : ℕ) →
+    RunAsks (origin_of c) source (input_for (origin_of c) input) m d e t u → AsksForEach c source input m d e t u
+each-asks law (run slides file n every report) source input m d e t u h = tt
+each-asks law (plain file n) source input m d e t u h = tt
+each-asks law (fmt file) source input m d e t u h = tt
+each-asks law (check file) source input m d e t u h = tt
+each-asks law (code file) source input m d e t u h = tt
+each-asks law (pack file) source input m d e t u h = tt
+each-asks law (bulk size) source input m d e t u h = tt
+each-asks law (when file plan keep) source input m d e t u h = tt
+each-asks law (exec file n every report) source input m d e t u h =
     λ p runs. let here = law.alike file source h.tables p h.runs runs in record {
       stands = here.stands input m.steps m h.stands;
-      count = here.asks input m.steps Count first.count.asks last.count.asks h.count;
-      trace = here.asks input m.steps Trace first.trace.asks last.trace.asks h.trace;
+      count = here.asks input m.steps Count d e h.count;
+      trace = here.asks input m.steps Trace t u h.trace;
     }
 
-pub asked-each : EachRuns → (told : Option Told) (left : Option (List ℕ)) (words : List (List ℕ)) (m : Kept) (s : Status) (old new : Asks) →
-    Unasked m old new ⊎ ForSource told left words (λ c source input.
-    RunAsks (origin_of c) source (input_for (origin_of c) input) m s (tuned_to (every_of c) old) new) →
-    Unasked m old new ⊎ ForSource told left words (λ c source input. Paces c source input m s old new)
-asked-each law told left words m s old new (inl h) = inl h
-asked-each law told left words m s old new (inr h) =
-    let P : Command → (source : Sources) (input : List ℕ) → Type 0 = λ c source input.
-    RunAsks (origin_of c) source (input_for (origin_of c) input) m s (tuned_to (every_of c) old) new in
-    let Q : Command → (source : Sources) (input : List ℕ) → Type 0 = λ c source input. Paces c source input m s old new in
-    inr (for-source-map told left words P Q (λ c source input a. (a, each-asks law c source input m s _ _ a)) h)
+pub asked-each : EachRuns → (told : Option Told) (left : Option (List ℕ)) (words : List (List ℕ)) (m : Kept) (d e t u : ℕ) →
+    Unasked m d e t u ⊎ ForSource told left words (λ c source input. RunAsks (origin_of c) source (input_for (origin_of c) input) m d e t u) →
+    Unasked m d e t u ⊎ ForSource told left words (λ c source input.
+    RunAsks (origin_of c) source (input_for (origin_of c) input) m d e t u × AsksForEach c source input m d e t u)
+asked-each law told left words m d e t u (inl h) = inl h
+asked-each law told left words m d e t u (inr h) =
+    let P : Command → (source : Sources) (input : List ℕ) → Type 0 = λ c source input. RunAsks (origin_of c) source (input_for (origin_of c) input) m d e t u in
+    let Q : Command → (source : Sources) (input : List ℕ) → Type 0 = λ c source input.
+    RunAsks (origin_of c) source (input_for (origin_of c) input) m d e t u × AsksForEach c source input m d e t u in
+    inr (for-source-map told left words P Q (λ c source input a. (a, each-asks law c source input m d e t u a)) h)
 
 module _ {told : Option Told} {left : Option (List ℕ)} {words : List (List ℕ)} {given answer : Status} {old new : Option (List ℕ)} {m : Kept}
     {still : Type 0} (law : EachRuns) (a : Answered told left words given answer old new m still) where

@@ -13,7 +13,7 @@ ghost use Rattle.rg_machine.specs.Owned.{IsOwned};
 ghost use Rattle.rg_run.specs.Asked.{SameTuned, both};
 ghost use Rattle.rg_run.specs.Sound.{Stands};
 ghost use Rattle.rg_run.specs.Machine.{IsFresh};
-ghost use Rattle.rg_words.specs.Commands.{Command, command, texts, steps_of, may_open};
+ghost use Rattle.rg_words.specs.Commands.{Command, command, texts, origin_of, steps_of, may_open};
 ghost use Rattle.rg_words.specs.Commands.{may_read, every_of, runs_on, is_slide, reports};
 ghost use Rattle.rg_words.specs.Commands.{may_run, may_report, may_schedule};
 ghost use Rattle.rg_words.specs.Requests.{command_for};
@@ -22,8 +22,8 @@ ghost use Rattle.rg_commands.specs.Expected.{ExpectsStatus};
 ghost use Rattle.rg_commands.specs.CutOff.{Untouched, CutOffAt, CutAtInput};
 ghost use Rattle.rg_top.specs.Headline.{ForSource, Exactly, ExactlyWhere, Answers, TookNotes};
 ghost use Rattle.rg_top.specs.Headline.{ToldFault, MayTell, steps_asked, UnlessSchedule, OpensBy};
-ghost use Rattle.rg_top.specs.Each.{StandsForEach, Paces};
-ghost use Rattle.rg_commands.specs.Asked.{Unasked, SayYes};
+ghost use Rattle.rg_top.specs.Each.{StandsForEach, AsksForEach};
+ghost use Rattle.rg_commands.specs.Asked.{Unasked, RunAsks, SayYes, input_for};
 
 use crate::laws::{each_runs, packed_runs_as};
 use crate::notes::{tell, tell_behind};
@@ -120,10 +120,14 @@ pub fn reggio<F: Files, I: Source, O: Sink, R: Sink>(
     ensures slides { (c : Command) → command (texts words.now) ≡ Some c →
         ¬ IsFresh machine.new → machine.new.stepper.slides ≡ is_slide c }
     ensures asked { may_schedule (command (texts words.now)) ≡ false → Unasked machine.new
-        (both (tally count.old) (tally trace.old)) (both (tally count.new) (tally trace.new))
+        (tally count.old).asks (tally count.new).asks (tally trace.old).asks (tally trace.new).asks
         ⊎ ForSource (F.told files.old) (I.left input.old) (texts words.now)
-        (λ c source bytes. Paces c source bytes machine.new result
-        (both (tally count.old) (tally trace.old)) (both (tally count.new) (tally trace.new))) }
+        (λ c source bytes. RunAsks (origin_of c) source (input_for (origin_of c) bytes) machine.new
+        (tally count.old).asks (tally count.new).asks
+        (tally trace.old).asks (tally trace.new).asks
+        × AsksForEach c source bytes machine.new
+        (tally count.old).asks (tally count.new).asks
+        (tally trace.old).asks (tally trace.new).asks) }
     ensures yeses { may_schedule (command (texts words.now)) ≡ false → SayYes machine.new
         (tally count.old).yeses (tally count.new).yeses
         (tally trace.old).yeses (tally trace.new).yeses }

@@ -12,7 +12,7 @@ use Rattle.rg_top.proofs.Answer.{Answered, answer-exactly, answer-refused, answe
 use Rattle.rg_top.proofs.Answer.{answer-unopened, answer-untouched, answer-output, answer-tuned, answer-usage, given-is, answer-chooses, tuned-moved}
 use Rattle.rg_top.proofs.Answer.{answer-may, settles-moved, usage-exactly, on-fact, answer-opened, usage-opened}
 use Rattle.rg_top.proofs.NoteLines.{asked-notes, asked-fault, unasked-notes, took-moved}
-use Rattle.rg_top.proofs.Asked.{asked-words}
+use Rattle.rg_top.proofs.Asked.{asked-words, asked-moved}
 use Rattle.rg_commands.proofs.Asked.{yeses-fresh}
 use Rattle.rg_top.proofs.Each.{each-answered, each-cut_off, each-cut_at_input, asked-each}
 use Rattle.rg_top.proofs.top.reggio.Given.{Over}
@@ -187,10 +187,10 @@ returns-in-None-clause-long g c = λ bytes. usage-exactly _ _ _ _ status.Long c.
 
 pub returns-in-Some-clause-asked : goal.returns-in-Some-clause-asked
 returns-in-Some-clause-asked g c = λ off.
-    asked-each c.each_runs.ensures _ _ (texts c.args.words.now) _ _ _ _
-    (asked-words _ (texts c.args.words.now) (command_for c.in-Some.task) _ _ _ c.answer-status.new.self.machine.now _ _ _ c.in-Some.ensures.is
-    (search rules) c.tell_behind-told.ensures.told
-    (c.answer-status.ensures.asked (sym (ap may_schedule c.in-Some.ensures.is) ∙ off)))
+    asked-each c.each_runs.ensures _ _ (texts c.args.words.now) _ _ _ _ _
+    (asked-moved _ (texts c.args.words.now) _ c.answer-status.new.self.machine.now _ _ _ _ _ (search rules)
+    (asked-words _ (texts c.args.words.now) (command_for c.in-Some.task) _ _ _ _ _ _ c.in-Some.ensures.is
+    (c.answer-status.ensures.asked (sym (ap may_schedule c.in-Some.ensures.is) ∙ off))))
 
 pub returns-in-Some-clause-yeses : goal.returns-in-Some-clause-yeses
 returns-in-Some-clause-yeses g c = λ off. let said = c.answer-status.ensures.yeses (sym (ap may_schedule c.in-Some.ensures.is) ∙ off) in search rules

@@ -46,7 +46,7 @@ returns-in-Err-clause-yeses g c = yeses-fresh _ _ _ _ _ c.requires.fresh refl re
 pub returns-in-Ok-clause-asked : goal.returns-in-Ok-clause-asked
 returns-in-Ok-clause-asked g c =
     let raised = c.in-Ok.ensures.brings in
-    asked-command _ _ raised.source _ _ _ _ _ raised.has
+    asked-command _ _ raised.source _ _ _ _ _ _ raised.has
     (c.run_accepted.ensures.asked (in_module c.args.file.now) raised.source raised.runs)
 
 pub returns-in-Ok-clause-yeses : goal.returns-in-Ok-clause-yeses

@@ -1,9 +1,15 @@
-use Rattle.std.proofs.Common.{inl, refl}
+use Rattle.std.proofs.Common.{ℕ, inl, refl}
+use Rattle.rg_run.specs.Machine.{Kept, IsFresh}
+use Rattle.rg_commands.specs.Asked.{Unasked}
 use Rattle.rg_words.specs.Commands.{fmt, check, code, pack, bulk}
 use Rattle.rg_commands.proofs.Settled.{settles-still, no_lie}
 use Rattle.rg_commands.proofs.Refused.{caused-unread}
-use Rattle.rg_commands.proofs.Asked.{asked-generated, unasked, yeses-fresh}
+use Rattle.rg_commands.proofs.Asked.{asked-generated, yeses-fresh}
 use Rattle.rg_commands.proofs.setting.Setting.answer_program.Goals as goal
+
+-- no run has begun, and no pacer was asked
+unasked : (m : Kept) (count trace : ℕ) → IsFresh m → Unasked m count count trace trace
+unasked m count trace fresh = record { fresh = fresh; count = refl; trace = refl }
 
 pub returns-in-Run-clause-settles : goal.returns-in-Run-clause-settles
 returns-in-Run-clause-settles g c = λ source means. (

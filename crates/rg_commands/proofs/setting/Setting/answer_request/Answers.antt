@@ -35,7 +35,7 @@ returns-in-Err-clause-yeses g c = yeses-fresh _ _ _ _ _ c.requires.unused.fresh 
 pub returns-in-Ok-clause-asked : goal.returns-in-Ok-clause-asked
 returns-in-Ok-clause-asked g c =
     let found = c.in-Ok.ensures.brings in
-    asked-command _ _ found.source _ _ _ _ _ found.has (c.answer_program.ensures.settles found.source found.means).1
+    asked-command _ _ found.source _ _ _ _ _ _ found.has (c.answer_program.ensures.settles found.source found.means).1
 
 pub returns-in-Ok-clause-yeses : goal.returns-in-Ok-clause-yeses
 returns-in-Ok-clause-yeses g c = c.answer_program.ensures.yeses

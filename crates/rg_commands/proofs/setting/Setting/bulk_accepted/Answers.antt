@@ -1,5 +1,4 @@
 use Rattle.rg_words.specs.Commands.{generated}
-use Rattle.rg_commands.proofs.Asked.{asked-behind, line-cut}
 use Rattle.rg_commands.proofs.Generated.{bulk-settles, generated-stops, no-fault}
 use Rattle.rg_commands.proofs.setting.Setting.bulk_accepted.Goals as goal
 
@@ -14,9 +13,7 @@ returns-clause-settles g c = λ source left runs.
     (no-fault _ c.run_accepted-ran.ensures.caused.input_fault) (c.run_accepted-ran.ensures.ran (generated c.args.size) source runs)
 
 pub returns-in-Done-clause-asked : goal.returns-in-Done-clause-asked
-returns-in-Done-clause-asked g c = λ source runs.
-    asked-behind (generated c.args.size) source _ _ _ _ _ _
-    (rw c.in-Done.is (line-cut _ _ _ _ c.put_bulk_line.ensures.put)) (c.run_accepted-ran.ensures.asked (generated c.args.size) source runs)
+returns-in-Done-clause-asked g c = λ source runs. c.run_accepted-ran.ensures.asked (generated c.args.size) source runs
 
 pub returns-in-Done-clause-yeses : goal.returns-in-Done-clause-yeses
 returns-in-Done-clause-yeses g c = c.run_accepted-ran.ensures.yeses

@@ -1,7 +1,7 @@
 use Rattle.std.proofs.Common.{◌∙◌, ℕ, inl, refl, ap}
 use Rattle.rg_pace.specs.Asked.{Asked}
 use Rattle.rg_commands.proofs.Reported.{quiet-memory}
-use Rattle.rg_commands.proofs.Asked.{asked-tuned, quiet-same, yeses-tuned, yeses-fresh}
+use Rattle.rg_commands.proofs.Asked.{asked-tuned, yeses-tuned, yeses-fresh}
 use Rattle.rg_commands.proofs.setting.Setting.run_accepted.Goals as goal
 
 -- the fields of a tally
@@ -25,7 +25,7 @@ returns-in_default-clause-notes g c = quiet-memory c.args.options.report c.args.
 
 pub returns-clause-asked : goal.returns-clause-asked
 returns-clause-asked g c = λ origin source runs.
-    asked-tuned origin source _ _ _ _ _ _ _ _ c.tune.ensures c.tune-2.ensures (c.run_code.ensures.ran origin source runs).1
+    asked-tuned origin source _ _ _ _ _ _ _ _ (ap asks c.tune.ensures) (ap asks c.tune-2.ensures) (c.run_code.ensures.ran origin source runs).1
 
 pub returns-clause-yeses : goal.returns-clause-yeses
 returns-clause-yeses g c = yeses-tuned c.run_code.new.self.machine.now _ _ _ _ _ _ (ap yeses c.tune.ensures) (ap yeses c.tune-2.ensures) c.run_code.ensures.paced.1
@@ -36,7 +36,7 @@ returns-clause-tuned g c =
 
 pub returns-in_default-clause-asked : goal.returns-in_default-clause-asked
 returns-in_default-clause-asked g c = λ origin source runs.
-    inl (record { fresh = c.requires; count = quiet-same _ _ c.tune.ensures; trace = quiet-same _ _ c.tune-2.ensures })
+    inl (record { fresh = c.requires; count = ap asks c.tune.ensures; trace = ap asks c.tune-2.ensures })
 
 pub returns-in_default-clause-yeses : goal.returns-in_default-clause-yeses
 returns-in_default-clause-yeses g c = yeses-fresh _ _ _ _ _ c.requires (ap yeses c.tune.ensures) (ap yeses c.tune-2.ensures)

@@ -9,8 +9,7 @@ returns-clause-ran g c = λ origin source runs.
     let told = on-input _ _ _ _ _ c.new.ensures c.run-ran.ensures.follows c.run-ran.ensures.run in (
       rw c.status_of.ensures.is
           (run-from origin c.args.options.steps source _ c.args.lowered.now.accepted.now.program _ _ _ _ _ _ _ _ _ (λ h. h.1) runs told),
-      rw c.status_of.ensures.is
-          (asked-from origin c.args.options.steps source _ c.args.lowered.now.accepted.now.program _ _ _ _ _ _ _ _ c.requires.lowers runs told),
+      asked-from origin c.args.options.steps source _ c.args.lowered.now.accepted.now.program _ _ _ _ _ _ _ _ _ _ refl refl c.requires.lowers runs told,
     )
 
 pub returns-clause-notes : goal.returns-clause-notes
