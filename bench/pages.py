@@ -109,7 +109,7 @@ document.title = `TOLD ${{told}} TOLD`; }}</script>"""
         with open(f"{folder}/page.html", "w", encoding="utf-8") as out:
             out.write(page.replace("<head>", "<head>" + BEFORE, 1).replace("</body>", test + "</body>", 1))
         try:
-            ran = subprocess.run(["chromium", "--headless=new", "--no-sandbox", "--disable-gpu", "--enable-logging=stderr", f"--user-data-dir={folder}/user",
+            ran = subprocess.run(["chromium", "--headless=new", "--no-sandbox", "--disable-gpu", "--disable-ipc-flooding-protection", "--enable-logging=stderr", f"--user-data-dir={folder}/user",
                                   "--window-size=1500,900", "--virtual-time-budget=20000", "--dump-dom", f"file://{folder}/page.html"],
                                  capture_output=True, text=True, timeout=600)
         except (OSError, subprocess.TimeoutExpired) as error:

@@ -26,7 +26,7 @@ region examples/region.rg
 nested examples/nested.rg
 bank examples/bank.rg --input examples/bank.in
 queue examples/queue.rg
-moving examples/region.rg --slide
+moving docs/pages/moving.rg --slide
 plan examples/accounts.rg docs/pages/three.plan
 PAGES
 }

@@ -28,7 +28,7 @@ class State:
     """What is there, from the line of all that is there on."""
 
     def __init__(self, start):
-        self.frames = [[entry, {}] for entry in start["frames"]]
+        self.frames = [[entry, caller, windows, {}] for entry, caller, windows in start["frames"]]
         self.regions, self.objects, self.windows = {}, {}, start["windows"]
         self.change(start)
 
@@ -36,9 +36,9 @@ class State:
         for _ in range(it.get("pop", 0)):
             self.frames.pop()
         if "push" in it:
-            self.frames.append([it["push"], {}])
+            self.frames.append([it["push"], it["at"], len(self.windows), {}])
         for frame, slot, value in it.get("v", ()):
-            self.frames[frame][1][slot] = value
+            self.frames[frame][3][slot] = value
         for number, manager, bridge in it.get("regions", ()):
             self.regions[number] = manager, bridge
         if "given" in it and self.windows[-1][1] in self.regions:
@@ -59,7 +59,7 @@ class State:
     def shown(self):
         """The same, as it is compared: regions whose bridges are there, slots that hold something."""
         regions = {number: it for number, it in self.regions.items() if it[1] in self.objects and self.objects[it[1]][1] == number}
-        return regions, self.objects, self.windows, [[entry, {k: v for k, v in slots.items() if v is not None}] for entry, slots in self.frames], self.now, self.next
+        return regions, self.objects, self.windows, [[*frame, {k: v for k, v in slots.items() if v is not None}] for *frame, slots in self.frames], self.now, self.next
 
 
 def differs(program, file, *more):

@@ -60,13 +60,25 @@ class Recorder:
                         if (phase, values) != known[low][i][1:]]] for low, high in sorted(close)]
 
 
-def schedules_of(schedule, file, plan_name, plan, given, seed):
+def exact(recorder, numbers, need):
+    """How many numbers each behaviour needs to its end, of a schedule in which each has enough."""
+    need = list(need)
+    for place, changed in recorder.changes(numbers):
+        for i, phase, _ in changed:
+            if recorder.schedule.has_ended(phase):
+                need[i] = numbers[:place].count(i)
+    return need
+
+
+def schedules_of(recorder, plan, given, seed):
     """Each schedule with its name: the one that is given, and some that are made."""
+    schedule, file, plan_name = recorder.schedule, recorder.file, recorder.plan
     if given is not None:
         schedule.when(file, plan_name, given.split())   # (it says what is wrong with the numbers)
         yield "as given", [int(it) for it in given.split()]
     need, stands = schedule.needs(file, plan_name, plan)
     short = [it if schedule.has_ended(stands[i][1]) else min(it, schedule.SHORT) for i, it in enumerate(need)]
+    short = exact(recorder, schedule.in_order(plan, short)[:MOST_SHOWN], short)
     for way in schedule.WAYS:
         for k in range(RANDOM if way == "random" else 1):
             course = schedule.made(way, plan, short, stands, seed + k)
@@ -85,7 +97,7 @@ def data_of(file, plan_name, given, seed):
         raise Refused(f"{printable(plan_name)} has no behaviour")
     recorder, told = Recorder(schedule, file, plan_name), []
     names = [name for name, _, _ in recorder.behind([])]
-    for name, all_of_it in schedules_of(schedule, file, plan_name, plan, numbers, seed):
+    for name, all_of_it in schedules_of(recorder, plan, numbers, seed):
         shown = all_of_it[:MOST_SHOWN]
         told.append({"name": name, "numbers": shown, "all": len(all_of_it), "changes": recorder.changes(shown)})
     recorder.pool.shutdown()

@@ -160,7 +160,7 @@ class Reader:
                     left = Node("is_nil", left.start, of=left, no=no, word=self.take().text)
                 else:
                     left = Node("compare", left.start, first=left, rest=[("!=" if no else "==", self.expr(5), it.start)])
-            elif op in ("in", "instanceof") and least <= 4 and not self.plain or op == "not" and self.tok(1).text == "in" and least <= 4:
+            elif op in ("in", "instanceof") and least <= 4 or op == "not" and self.tok(1).text == "in" and least <= 4:
                 no = bool(self.take("not"))
                 self.take()
                 left = Node("within", left.start, of=left, no=no, row=self.expr(5))
@@ -457,9 +457,12 @@ class Reader:
     def declared(self, start, names, type, word=""):
         node = Node("let", start, names=names, type=type, right=None, word=word)
         if self.take("=", ":="):
-            node.right = self.expr()
-            while self.take(","):
-                node.right = Node("raw", start, why=",") if self.expr() else None
+            node.right, rights = self.expr(), []
+            while self.take(","):      # int a = 1, b = 2;
+                rights = rights or [(None, node.right)]
+                names.append(self.take().text)
+                rights.append((None, self.expr() if self.take("=") else Node("number", start, said="0")))
+                node.right = Node("list", start, args=rights, sign=",")
         return self.ended(node)
 
     def typed(self, start):
@@ -489,16 +492,8 @@ class Reader:
                             break
                 else:
                     words.append(self.take().text)
-            if self.is_name() and not self.tok().is_fresh and (self.tok(1).text in ("=", ";", ",", "[") or self.tok(1).is_fresh):
+            if self.is_name() and not self.tok().is_fresh and (self.tok(1).text in ("=", ";", ",") or self.tok(1).is_fresh):
                 names = [self.take().text]
-                if self.at("["):      # int a[5];
-                    words += ["["]
-                    self.take()
-                    size = None if self.at("]") else self.expr()
-                    self.take("]")
-                    node = self.declared(start, names, words)
-                    node.right = node.right or Node("list", start, args=[(None, size)] if size else [], sign="new")
-                    return node
                 while self.at(",") and self.tok(1).kind == "name" and self.tok(2).text in (",", ";", "="):
                     self.take()
                     names.append(self.take().text)
@@ -517,14 +512,9 @@ class Reader:
             op = self.take("=", "+=", "-=", "*=", "/=", "%=", "**=", "//=", "<<=", ">>=")
             if op:
                 rights.append(self.expr())
-                chain = []
-                while self.at("=") and op.text == "=":
-                    self.take()
-                    chain.append(rights[-1])
-                    rights = [self.expr()]
                 while self.take(","):
                     rights.append(self.expr())
-                return self.ended(Node("assign", start, lefts=lefts, chain=chain, op=op.text[:-1], rights=rights))
+                return self.ended(Node("assign", start, lefts=lefts, op=op.text[:-1], rights=rights))
         if self.k == k and not self.at(";", "}") and not self.tok().is_fresh and self.tok().kind != "end" and left.kind in ("raw", "text", "name"):
             self.k = k
             return self.raw(start)
@@ -588,7 +578,7 @@ class Reader:
         inner = self.toks[self.k:self.closed(self.k)] if opens else self.toks[self.k:self.k + 40]
         if opens:
             self.take()
-        brace = next((it.start for it in inner if it.text in ("{", "}")), len(self.code))
+        brace = next((it.start for it in inner if it.text in ("{", "}") or it.is_fresh and not opens), len(self.code))
         if any(it.text == ";" and it.start < brace for it in inner):
             first = self.statement() if not self.take(";") else None
             test = None if self.at(";") else self.head()
@@ -822,23 +812,13 @@ class Reader:
             while self.tok(1).kind == "name" and not self.tok(1).is_fresh and self.tok(1).text not in ("extends", "implements", "is", "for", "where"):
                 self.take()
             name = self.take().text
-            node = Node("class", start, word=word, name=name, is_tmp=is_tmp, some=[], element=None, head=self.tok().start, form="brace", opens=None, params=None, shuts=None)
+            node = Node("class", start, word=word, name=name, is_tmp=is_tmp, some=[], element=None, head=self.tok().start, form="brace", opens=None, shuts=None)
             if self.at("["):
                 self.take()
                 node.element = self.words_until("]", ";", "}")
                 self.take("]")
                 self.take(";")
                 return self.done(node)
-            if self.at("("):
-                k = self.k
-                self.take()
-                while not self.at(")") and self.tok().kind != "end":
-                    member = self.member(None)
-                    node.params = (node.params or []) + [member]
-                    if self.k == k:
-                        self.take()
-                    k = self.k
-                self.take(")")
             while not self.at("{", ";", "}") and self.tok().kind != "end" and not (self.at(":") and self.tok(1).is_fresh) and not (self.tok().is_fresh):
                 self.take()
             node.base, node.opens = self.code[node.head:self.tok().start].strip(), (self.tok().start, self.tok().end)

@@ -151,7 +151,7 @@ class Case:
         whole = self.code[first:start] + put
         if put.rstrip()[-1:] not in (";", "}"):
             whole += re.match(r"[^;{}\n]*(;|\s*\{|)", self.code[end:])[0]
-        whole = line_words(whole)
+        whole = line_words(whole) or whole.strip()
         return (where + f"`{whole[:300] + (' ..' if len(whole) > 300 else '')}`").encode("latin-1").decode("utf-8", "replace")
 
     def written(self, *places):
@@ -695,6 +695,9 @@ def of_other_type(case, e, type, got, what):
     edits, is_plain = [], e.kind in ("name", "path")
     if got in START and (type in START):
         name = node.names[0] if node.kind == "let" else case.src(node.lefts[0]) if node.kind == "assign" else None
+        if got == "bool" and node.kind == "assign":      # x + b, where a truth value counts as 1
+            said.append("A truth value is no number: an `if` decides what is added.")
+            edits.append(case.whole(f"if {src} {{ {case.replaced(e, '1')} }}"))
         if type == "bool":
             edits += put([f"{src} != 0" if is_plain or e.kind == "number" else f"({src}) != 0"])
         elif name and e is (node.right if node.kind == "let" else node.rights[0]):
@@ -717,6 +720,9 @@ def of_other_type(case, e, type, got, what):
         if type in ("bool", "shown"):
             edits += put([f"not {src} is nil", f"{src} is nil"])
         return said, edits
+    if " " in type and got in START:
+        said.append("A reference leads to an object, or is nil.")
+        return said, put([f"new {type.split()[1]}", "nil"])
     if " " not in type or " " not in got:
         return said, edits
     (cap, of), (mine, its) = type.split(), got.split()
@@ -756,6 +762,10 @@ def of_other_type(case, e, type, got, what):
         if node.kind == "assign" and node.lefts[0].kind == "name":
             it = case.declared(node.lefts[0].name)
             edits += [(*it.cap, mine)] if it is not None and it.cap else []
+        elif node.kind == "assign" and node.lefts[0].kind == "path" and mine in ("mut", "imm"):
+            member = case.names.member(case.type(node.lefts[0].of), node.lefts[0].name)[0]
+            m = re.compile(rf"\b{node.lefts[0].name}\s*:\s*(\w+)").search(case.code, member.start) if member is not None else None
+            edits += [(m.start(1), m.end(1), mine)] if m else []
         method = next((case.names.member(case.type(one.of.of), one.of.name)[0] for one in every(node) if one.kind == "call" and one.of.kind == "path" and any(arg is e for _, arg in one.args)), None)
         if method is not None and method.kind == "method":
             m = re.search(rf"\b{re.escape(what.split('`')[1])}\s*:\s*(\w+)", case.code[method.start:method.head])
@@ -819,7 +829,7 @@ def of_capability(case):
             m = re.compile(r"\s*def\s+(\w+)").match(case.code, method.start)
             edits.append((m.start(1), m.end(1), "paused"))
         right = it.node.right if it.kind == "variable" else None
-        if cap == "imm":
+        if cap == "imm" and (method is None or method.body is not None and method.body.has(lambda it: it.kind in ("assign", "swap", "enter"))):
             said.append("What is frozen is never changed again: it is written in its window, before `freeze`.")
             if right is not None and right.kind == "verb" and e.kind in ("name", "path"):
                 z = case.fresh("z", "inner")
@@ -1024,7 +1034,7 @@ def of_iso_field(case):
         if member is None or member.kind != "field" or member.type[0] != "iso":
             continue
         field, type = case.src(e), " ".join(member.type)
-        said = [f"The field `{field}` owns its region (`{type}`): it is never copied or assigned, only `swap` with a variable changes it."]
+        said = [f"The field `{field}` owns its region (`{type}`): it is neither copied nor assigned. `swap` exchanges it with a variable, and `enter` opens it where it is."]
         g = case.fresh("out", "taken")
         if use == "target":
             right = node.rights[0]

@@ -1,5 +1,6 @@
 """What tools/explore and tools/heap ask of the program rg_trail (docs/embedding.md, "A trail"): the lines of a run."""
 import contextlib
+import ending
 import json
 import os
 import re
@@ -136,13 +137,12 @@ def ended(it):
 
 
 def guarded(main, tool):
-    """Calls a tool's main, and says in a line why it has nothing to show."""
-    try:
-        main()
-        sys.stdout.flush()
-    except Refused as why:
-        print(f"{tool}: {why}", file=sys.stderr)
-        sys.exit(why.status)
-    except BrokenPipeError:
-        os.dup2(os.open(os.devnull, os.O_WRONLY), 1)
-        sys.exit(1)
+    """Runs a tool, which says in a line why it has nothing to show."""
+    def told():
+        try:
+            main()
+        except Refused as why:
+            print(f"{tool}: {why}", file=sys.stderr)
+            return why.status
+
+    ending.run(told)

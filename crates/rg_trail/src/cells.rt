@@ -52,15 +52,14 @@ pub fn shown(heap: &Heap, word: Word) -> Val {
     }
 }
 
-/// What is in a field of the cell in a slot; nil where there is none.
-fn field(heap: &Heap, slot: usize, k: usize) -> Val {
-    if heap.at(slot).is_none() {
-        return Val::Nil;
+/// What is in a field of the cell in a slot, if there is one.
+fn field(heap: &Heap, slot: usize, k: usize) -> Option<Val> {
+    let held = heap.at(slot)?;
+    if k >= held.fields as usize {
+        return None;
     }
-    match heap.element(slot, k) {
-        Some(word) => shown(heap, word),
-        None => Val::Nil,
-    }
+    let word = heap.element(slot, k)?;
+    Some(shown(heap, word))
 }
 
 /// Whether a step may write the fields of what belongs there.
@@ -155,7 +154,7 @@ impl Known {
         self.fields.truncate(0);
         changes.come(held, slot)?;
         for k in 0..held.fields as usize {
-            let v = field(heap, slot, k);
+            let v = field(heap, slot, k).unwrap_or(Val::Nil);
             if self.fields.push(v).is_err() {
                 return Err(Memory);
             }
@@ -173,7 +172,7 @@ impl Known {
         changes: &mut Changes,
     ) -> Result<(), Memory> {
         for k in 0..self.fields.len() {
-            let v = field(heap, slot, k);
+            let v = field(heap, slot, k).unwrap_or(Val::Nil);
             if let Some(was) = self.fields.get_mut(k) {
                 if *was != v {
                     *was = v;
