@@ -282,7 +282,7 @@ expect 'new: its files' 0 '*my_pacer_is_here*' '' "cd copy/crates/host && grep -
 expect 'new: the same once more' 1 '' 'new: host is there already' "$new host"
 
 # Ctrl-C ends a tool with one line, and no traceback.
-stopped() { echo "timeout --preserve-status -s INT 2 $*"; }
+stopped() { echo "timeout --preserve-status -s INT 5 $*"; } # (by then it has begun, also at a load)
 expect 'compare: stopped' 130 '*' 'compare: stopped' "$(stopped "$compare" endless.rg)"
 expect 'draw: stopped' 130 '' 'draw: stopped' "tail -f /dev/null --pid \$\$ | $(stopped "$draw")"
 expect 'schedule: stopped' 130 '*' 'schedule: stopped' "$(stopped "$schedule" add.rg add.plan --many 10000)"
