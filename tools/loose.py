@@ -320,7 +320,8 @@ class Reader:
             if self.at("=>") and not self.plain:
                 return self.function(it.start)
             return self.done(Node("name", it.start, name=word))
-        self.take()
+        if not self.at(";", "}", ")", "]", ","):
+            self.take()
         return self.done(Node("raw", it.start, why=word))
 
     def function(self, start):
@@ -661,7 +662,7 @@ class Reader:
     def read_print(self, start, indent):
         word = self.take()
         node = Node("print", start, args=[], word=word.text)
-        if word.text == "print" and not self.at("("):
+        if word.text == "print" and not self.at("(", ";", "}"):
             node.args.append((None, self.expr()))
             while self.take(","):
                 node.args.append((None, self.expr()))
@@ -677,7 +678,7 @@ class Reader:
             node.args, node.paren = self.arguments(")"), True
             return self.ended(node)
         if word.text == "print":
-            node.args.append((None, self.expr()))
+            node.args += [(None, self.expr())] if self.at("(") else []
             return self.ended(node)
         return None
 
