@@ -2,7 +2,7 @@
 written is only tried: whether it does, `reggio` says."""
 import re
 
-from loose import CAP_WORDS, CAPS, CLASSES, DECLARES, METHODS, NILS, VISIBLE, Node
+from loose import CAP_WORDS, CAPS, METHODS, NILS, VISIBLE, Node
 from outline import language
 
 NUMBERS = set("Int Integer Long i8 i16 i32 i64 i128 u8 u16 u32 u64 usize isize long short byte unsigned I64 I32 I128 U8 U32 U64 USize "
@@ -683,7 +683,7 @@ class Writer:
             return self.put(node, f"{of} = {of} {e.op[0]} 1;")
         if e.kind == "text":
             return self.replace(node.start, node.end, "// " + joined(e.said.strip("\"'`").split()) + self.line_break(node.start))
-        if self.result and self.result.get("last") is node or self.method is not None and self.method.result and self.is_last(node):
+        if self.method is not None and self.method.result and self.is_last(node):
             self.note(node.start, "What a method gives is returned by `return ..;`, in the last place of its body.")
             return self.on_return(Node("return", node.start, of=e, end=node.end))
         if e.kind in ("call", "wrap", "paren"):
@@ -1152,7 +1152,7 @@ class Writer:
         if node.form != "brace":
             self.note(node.opens[0], "A block stands in braces: `{ .. }`.")
             last = node.some[-1].end if node.some else node.opens[1]
-            self.replace(*node.opens, "{") if self.code[node.opens[0]] == ":" else self.insert(node.opens[0], "{ ")
+            self.replace(*node.opens, "{") if self.code[node.opens[0]:node.opens[1]] == ":" else self.insert(node.opens[0], "{ ")
             self.insert(last, "\n}")
         if node.semi:
             self.note(node.end, "Behind a class stands no `;`.")
@@ -1174,7 +1174,7 @@ class Writer:
     def on_top(self, node):
         """What stands outside of classes: a function, a variable, a statement."""
         main = next((it for it in self.tree.some if it.kind == "main"), None)
-        if node.kind == "method" and node.name == "main" or node.kind == "method" and node.name in ("Main",):
+        if node.kind == "method" and node.name == "main" and node.body is not None:
             self.note(node.start, "The program's statements stand in `main arena { .. }`, which is its last part.")
             return self.on_main(Node("main", node.start, head=node.head, manager=None, body=node.body, result=[]))
         if node.kind == "method":

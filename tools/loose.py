@@ -505,7 +505,6 @@ class Reader:
     def simple(self, start):
         """An assignment, a call, or another expression that stands alone."""
         left, k = self.expr(), self.k
-        it = self.tok()
         if self.at("=", "+=", "-=", "*=", "/=", "%=", "**=", "//=", "<<=", ">>=") or self.at(","):
             lefts, rights = [left], []
             while self.take(","):
@@ -762,7 +761,7 @@ class Reader:
             if "self" in some or "this" in some:
                 node.own = some
             elif some:
-                some = some[:some.index("=")] if "=" in some else some
+                some = some[:some.index("=") or 1] if "=" in some else some
                 name, type = (some[some.index(":") - 1], some[some.index(":") + 1:]) if ":" in some else (some[-1], some[:-1])
                 node.params.append((name, type))
         self.take(")")
@@ -803,7 +802,7 @@ class Reader:
                 self.k = self.closed(self.k)
             head = self.tok().start
             return self.done(Node("main", start, head=head, manager=manager, body=self.block(indent), result=[]))
-        n, first = 0, self.k
+        n = 0
         while self.tok(n).text in VISIBLE or self.tok(n).text == "tmp":
             n += 1
         if self.tok(n).text in CLASSES and self.tok(n + 1).kind == "name" or word == "class":
@@ -813,7 +812,7 @@ class Reader:
             while self.tok(1).kind == "name" and not self.tok(1).is_fresh and self.tok(1).text not in ("extends", "implements", "is", "for", "where"):
                 self.take()
             name = self.take().text
-            node = Node("class", start, word=word, name=name, is_tmp=is_tmp, some=[], element=None, head=self.tok().start, form="brace", opens=None, shuts=None)
+            node = Node("class", start, word=word, name=name, is_tmp=is_tmp, some=[], element=None, head=self.tok().start, form="brace", opens=None, shuts=None, base="")
             if self.at("["):
                 self.take()
                 node.element = self.words_until("]", ";", "}")

@@ -4,7 +4,6 @@ prints it, and by tools/server, which tells editors.
 
 Nothing of the grammar and of the rules is written down here but how a source is cut into tokens: what could stand at a place
 is found by asking `reggio` about sources that differ there."""
-import functools
 import os
 import re
 import subprocess

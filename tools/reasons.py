@@ -1097,7 +1097,7 @@ def of_duplicate(case):
         stop = node.end if node.kind == "enter" else outer.end if outer is not None else node.end
         renamed = re.sub(rf"(?<![\w.]){name}\b", new, case.code[node.start:stop])
         if node.kind == "let" and node.right is not None:
-            cut = node.right.start - node.start     # (its value is that of the other one)
+            # (its value is that of the other one)
             renamed = re.sub(rf"(?<![\w.]){name}\b", new, case.code[node.start:node.right.start]) + case.src(node.right) + re.sub(rf"(?<![\w.]){name}\b", new, case.code[node.right.end:stop])
         return said, [(node.start, stop, renamed), *edits]
     if node.kind == "method" and len(dict(node.params)) < len(node.params):
