@@ -964,7 +964,7 @@ class Writer:
             args = [it for _, it in row.args]
             low, high, by = ("0", self.value(args[0], 5), "1") if len(args) == 1 else (self.value(args[0]), self.value(args[1], 5), self.value(args[2]) if len(args) > 2 else "1")
             row, sign = None, ">" if by.startswith("-") else "<"
-        elif row.kind == "range":
+        elif row.kind == "range" and row.high is not None:
             low, high, by, sign = self.value(row.low), self.value(row.high, 5), "1", row.op
             row = None
         if row is None:
@@ -1126,7 +1126,7 @@ class Writer:
 
     def on_class(self, node):
         before, self.home = self.home, node
-        if node.element:
+        if node.element is not None or node.opens is None:
             return
         other = self.classes.get(node.name)
         if node.word == "impl" and other is not None and other is not node and other.shuts is not None:
