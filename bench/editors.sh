@@ -20,8 +20,8 @@ try() { # NAME, a pattern of the last lines where all is well, COMMAND..
   timeout 600 "$@" >"$FOLDER/out" 2>"$FOLDER/err" </dev/null
   status=$?
   tr -d '\r' <"$FOLDER/out" >"$FOLDER/said"
-  if [ $status = 0 ] && grep -Eq -- "$good" "$FOLDER/said" && ! grep -q '^WRONG\|Traceback' "$FOLDER/said" "$FOLDER/err"; then
-    echo "ok    $name: $(grep -E -- "$good" "$FOLDER/said" | tail -n 1)"
+  if [ $status = 0 ] && grep -Eaq -- "$good" "$FOLDER/said" && ! grep -aq '^WRONG\|Traceback' "$FOLDER/said" "$FOLDER/err"; then
+    echo "ok    $name: $(grep -Ea -- "$good" "$FOLDER/said" | tail -n 1)"
   else
     wrong=$((wrong + 1))
     echo "WRONG $name, status $status"

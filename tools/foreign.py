@@ -166,7 +166,7 @@ class Writer:
         if kind in ("compare", "is_nil", "within"):
             return "bool"
         if kind == "unary":
-            return "bool" if e.op == "not" else self.type_of(e.of) if e.op in ("&", "*") else "int"
+            return "bool" if e.op == "not" or e.op == "~" and self.type_of(e.of) == "bool" else self.type_of(e.of) if e.op in ("&", "*") else "int"
         if kind == "binary":
             return "bool" if e.op in ("and", "or", "xor") else "int"
         if kind in ("paren", "wrap", "cast"):
@@ -317,6 +317,8 @@ class Writer:
                 self.note(e.start, "The least number isn't written as one.")
                 return "-9223372036854775807 - 1", 5
             return "-" + self.value(e.of, 8), 7
+        if e.op == "~" and self.type_of(e.of) == "bool":
+            return self.negated(e.of)
         raise Cannot(e.start, "There are no operators on bits." if e.op == "~" else "")
 
     def negated(self, e):
@@ -335,6 +337,8 @@ class Writer:
 
     def value_binary(self, e):
         op = e.op
+        if op in ("&", "|") and "bool" in (self.type_of(e.left), self.type_of(e.right)):
+            op = {"&": "and", "|": "or"}[op]
         if op in ("or", "and"):
             if self.code[e.place] in "|&":
                 self.note(e.place, "For `&&` and `||` there are `and` and `or`.")
@@ -430,6 +434,8 @@ class Writer:
                 self.pre.append(f"let {taken}: {type or self.choose(self.all_types())} = nil; swap {taken}, {of};")
                 of = taken
             return f"{e.verb} {of}", ""
+        if kind == "binary" and e.op == "*" and e.left.kind == "list":      # [0] * 4
+            return self.row(Node("list", e.start, args=[(None, e.right)], sign="new"), name)
         if kind == "choice" and name:
             self.note(e.test.start, "A value isn't chosen inside of an expression: an `if` is a statement.")
             no = self.value(e.no) if e.no else START.get(self.type_of(e), "nil")
@@ -497,7 +503,7 @@ class Writer:
             return self.made(Node("new", e.start, type=[home], args=e.args, size=None, manager=None), name)
         if getattr(e, "macro", False):
             if word == "vec":
-                return self.row(Node("list", e.start, args=e.args, sign="["), name)
+                return self.row(Node("list", e.start, args=e.args[e.is_repeated:], sign="new" if e.is_repeated else "["), name)
             raise Cannot(e.start, TEXT if word == "format" else "")
         if of.kind == "name" and word not in self.env:
             one = args[0] if len(args) == 1 else None

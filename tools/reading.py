@@ -186,8 +186,8 @@ def signs_tried(source, at):
     out."""
     start, end = source.tokens[at] if at < len(source.tokens) else (len(source.code), len(source.code))
     behind = source.tokens[at - 1][1] if at else 0
-    for one in CLOSERS:
-        yield behind, behind, (b"" if one in CLOSERS[:2] else b" ") + one.encode()
+    for one in [*CLOSERS, "()"]:
+        yield behind, behind, (b"" if one in (";", ")", "()") else b" ") + one.encode()
     for one in CLOSERS:
         yield start, end, one.encode()
     yield start, end, b""
