@@ -1180,6 +1180,8 @@ class Writer:
     def on_top(self, node):
         """What stands outside of classes: a function, a variable, a statement."""
         main = next((it for it in self.tree.some if it.kind == "main"), None)
+        if self.code[node.start:node.start + 1] in "}])":
+            raise Cannot(node.start, "")
         if node.kind == "method" and node.name == "main" and node.body is not None:
             self.note(node.start, "The program's statements stand in `main arena { .. }`, which is its last part.")
             return self.on_main(Node("main", node.start, head=node.head, manager=None, body=node.body, result=[]))
