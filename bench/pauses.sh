@@ -8,7 +8,8 @@
 # several runs the least of these, since other programs on the machine only make it longer. `median` is that of the best run.
 # What is tried: a runtime as it collects by itself, where it has ways `incremental` and `generational`; and `whole`, with one collection of
 # all that is there, of which the largest pause is the longest one. Of Reggio this is a collection of the region of the ring.
-# `looked_at` are the objects in front of the largest collection: of Reggio as the report tells them; of the others, for a whole cycle, all that are in reach, reckoned from the program, since these runtimes don't tell.
+# `looked_at` are the objects in front of the largest collection: of Reggio as the report tells them; of the others, for a whole cycle,
+# all that are in reach, reckoned from the program, since these runtimes don't tell.
 # It prints a table for `tools/compare --plot`, its first lines the machine, the date and the versions; where valgrind is installed, the
 # machine instructions of a request of Reggio, too. Not a part of the gate.
 # Usage: bench/pauses.sh [TURNS [PROGRAM]]; bench/pauses.sh 5 > docs/pauses.txt && tools/compare --plot docs/pauses.txt > docs/pauses.svg

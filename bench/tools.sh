@@ -1,6 +1,6 @@
 #!/usr/bin/env bash
 # Tries tools/ on bad input: no file, two files, a folder, an empty file, 1 MiB in one line, bytes that are no UTF-8, a
-# program that never ends, no program and no rt. Each gives the status and the lines that are wanted, and no traceback.
+# program that never ends, half a message, Ctrl-C, no program and no rt. Each gives the status and the lines that are wanted, and no traceback.
 # It prints a row for each case, `ok` or `WRONG`, and ends with a count; its status is 0 where none is wrong.
 # Not a part of the gate. Usage: bench/tools.sh [PROGRAM]
 set -u
@@ -44,37 +44,40 @@ printf '\0\0\0' >nul.rg
 { printf 'main arena { print '; head -c 1000000 /dev/zero | tr '\0' 9; printf '; }'; } >digits.rg
 printf 'main arena {\v}' >tab.rg
 
-usage='usage: tools/explain FILE \[--run \[--steps N\] \[--every N\] \[--report\]\]'
+usage='usage: tools/explain FILE *'
 explain=$here/tools/explain
 expect 'explain: no file' 2 '' "$usage" "$explain"
-expect 'explain: two files' 2 '' "$usage" "$explain seven.rg seven.rg"
+expect 'explain: three files' 2 '' "$usage" "$explain seven.rg a b"
 expect 'explain: an option that is none' 2 '' "$usage" "$explain --what"
 expect 'explain: an empty name' 2 '' "$usage" "$explain ''"
-expect 'explain: --help' 0 '*--run*' '' "$explain --help"
+expect 'explain: --help' 0 '*--trap*' '' "$explain --help"
 expect 'explain: a missing file' 5 '' 'source fault: missing.rg: No such file or directory' "$explain missing.rg"
 expect 'explain: a folder' 5 '' 'source fault: folder: Is a directory' "$explain folder"
 expect 'explain: a name that is no UTF-8' 5 '' 'source fault: *: No such file or directory' "$explain \$'\\xff.rg'"
-expect 'explain: an empty file' 1 '*The source ends here; there could stand `class`, `tmp` or `main`.*' 'E10 syntax at line 1' "$explain empty.rg"
+expect 'explain: an empty file' 1 '*A program ends with `main`*The source ends here.*' 'E10 syntax at line 1' "$explain empty.rg"
 expect 'explain: nothing is wrong' 0 accepted '' "$explain seven.rg"
-expect 'explain: a fault' 1 '*>     3    print totl;*^^^^*Is `total` meant?*## E20 unknown*' 'E20 unknown at line 3' "$explain fault.rg"
-expect 'explain: a pipe' 1 '*Is `total` meant?*' 'E20 unknown at line 3' "cat fault.rg | $explain /dev/stdin"
-expect 'explain: 1 MiB in one line, syntax' 1 '*Here stands `=`; there could stand a name.*' 'E10 syntax at line 1' "$explain syntax.rg"
+expect 'explain: a fault' 1 '*>     3    print totl;*^^^^*What is visible, the nearest first: `total: int`.*`print total;`*## E20 unknown*' 'E20 unknown at line 3' "$explain fault.rg"
+expect 'explain: a pipe' 1 '*`total: int`*' 'E20 unknown at line 3' "cat fault.rg | $explain /dev/stdin"
+expect 'explain: 1 MiB in one line, syntax' 1 '*Here stands `=`*' 'E10 syntax at line 1' "$explain syntax.rg"
 expect 'explain: 1 MiB in one line, a rule' 1 '*## E20 unknown*' 'E20 unknown at line 1' "$explain rule.rg"
 expect 'explain: more than 1 MiB' 9 '' 'source too long' "$explain long.rg"
 expect 'explain: without an end' 9 '' 'source too long' "$explain /dev/zero"
 expect 'explain: bytes that are no UTF-8' 1 '*## E01 byte*' 'E01 byte at line 2' "$explain bytes.rg"
 expect 'explain: the same, in a plain locale' 1 '*## E01 byte*' 'E01 byte at line 2' "LC_ALL=C PYTHONUTF8=0 $explain bytes.rg"
-expect 'explain: such bytes in a comment' 1 '*Here stands `;`*' 'E10 syntax at line 3' "$explain comment.rg"
+expect 'explain: such bytes in a comment' 1 '*`print` shows one value*Here stands `;`*' 'E10 syntax at line 3' "$explain comment.rg"
 expect 'explain: noise' 1 '*## E01 byte*' 'E01 byte at line *' "$explain noise.rg"
 expect 'explain: bytes 0' 1 '*Here stands the byte 0.*' 'E01 byte at line 1' "$explain nul.rg"
 expect 'explain: a million digits' 1 '*## E02 number*' 'E02 number at line 1' "$explain digits.rg"
 expect 'explain: a byte that is no blank' 1 '*Here stands the byte 11.*' 'E01 byte at line 1' "$explain tab.rg"
-expect 'explain: it runs' 0 7 '' "$explain seven.rg --run"
-expect 'explain: a program that never ends' 4 '*Status 4*--steps N*' 'spent at step 1000' "$explain endless.rg --run --steps 1000"
-expect 'explain: a trap' 3 '*>     4    print a.next.v;*Cure: ask first*' 'trap nil at line 4' "$explain trap.rg --run"
-expect 'explain: a trap, with a report' 3 '*Cure: ask first*' 'trap nil at line 4*end steps*' "$explain trap.rg --run --report"
-expect 'explain: words that run does not have' 2 '' 'usage: reggio run*' "$explain seven.rg --run --what"
+expect 'explain: a file that vanishes' 5 '' 'source fault: gone.rg: No such file or directory' "cp seven.rg gone.rg; rm gone.rg; $explain gone.rg"
 expect 'explain: a reader that goes' 7 '' 'E20 unknown at line 3' "$explain fault.rg | head -n 0; exit \${PIPESTATUS[0]}"
+expect 'explain: it runs' 0 7 '' "$explain --trap seven.rg"
+expect 'explain: a program that never ends' 4 '*Status 4*--steps N*' 'spent at step 1000' "$explain --trap endless.rg --steps 1000"
+expect 'explain: a trap' 3 '*>     4    print a.next.v;*`a` is not nil, `a.next` is nil*Cure: ask first*' 'trap nil at line 4' "$explain --trap trap.rg"
+expect 'explain: a trap, on a file' 3 '*`r` is 5*' 'trap zero at line 2' "printf 'main arena { let r: int = read; let k: int = 0;\n print r / k; }' >zero.rg; echo 5 >five; $explain --trap zero.rg five"
+expect 'explain: a missing input' 6 '' 'input fault: missing: No such file or directory' "$explain --trap seven.rg missing"
+expect 'explain: --trap and two inputs' 2 '' "$usage" "$explain --trap seven.rg a b"
+expect 'explain: --trap of a fault' 1 '*## E20 unknown*' 'E20 unknown at line 3' "$explain --trap fault.rg"
 
 draw=$here/tools/draw
 none='draw: no collection is told*'
@@ -152,6 +155,32 @@ if "$REGGIO" when add.rg add.plan </dev/null >/dev/null 2>&1; then
 else
   echo 'left out: schedule (the program has no when)'
 fi
+
+expect 'explain: a plan without a schedule' 0 '*waiting*Behaviour 0, `A.add`, waits for its number*Behaviour 1, `A.add`, waits for cown 0, until behaviour 0 ends.*' '' "$explain add.rg add.plan"
+expect 'explain: a bad plan' 1 '*Cown 0 stands twice*`when A.add 0`*## E93 plan*' 'E93 plan at line 2' "$explain add.rg bad.plan"
+expect 'explain: noise as a plan' 1 '*## E93 plan*' 'E93 plan at line *' "$explain add.rg noise.rg"
+expect 'explain: a bad schedule' 1 '*Word 2 of the schedule is `x`*## E94 schedule*' 'E94 schedule at line 2' "echo 0 x >schedule; $explain add.rg add.plan --schedule schedule"
+expect 'explain: another file for an image' 1 '*tools/image says of it*## E95 image*' 'E95 image at line 3' "$explain add.rg other.plan"
+expect 'explain: a missing plan' 5 '' 'source fault: missing: No such file or directory' "$explain add.rg missing"
+
+tidy=$here/tools/tidy
+expect 'tidy: no file' 2 '' 'usage: tools/tidy FILE*' "$tidy"
+expect 'tidy: a missing file' 5 '' 'tidy: missing: No such file or directory' "$tidy missing"
+expect 'tidy: a folder' 5 '' 'tidy: folder: Is a directory' "$tidy folder"
+expect 'tidy: an empty file' 1 '' 'tidy: empty.rg: E10 syntax at line 1' "$tidy empty.rg"
+expect 'tidy: noise' 1 '' 'tidy: noise.rg: E01 byte at line *' "$tidy noise.rg"
+expect 'tidy: more than 1 MiB' 9 '' 'tidy: long.rg: source too long' "$tidy long.rg"
+expect 'tidy: comments' 0 '// one*main arena {*  print 7; // 7*}' '' "printf '// one\nmain   arena{ // main\n print(7); // 7\n}\n' >laid.rg; $tidy laid.rg; cat laid.rg"
+expect 'tidy: once more' 0 '' '' "cp -p laid.rg was; $tidy laid.rg; cmp laid.rg was; [ ! laid.rg -nt was ]"
+
+server=$here/tools/server
+expect 'server: words' 2 '' 'usage: tools/server*' "$server what"
+expect 'server: no message' 1 '' '' "$server </dev/null"
+expect 'server: half a message' 1 '' '' "printf 'Content-Length: 100\r\n\r\n{\"jsonrpc\"' | $server"
+expect 'server: noise' 1 '' '' "$server <noise.rg"
+for tool in explain\ --trap\ endless.rg compare\ endless.rg server draw; do
+  expect "$tool: Ctrl-C" 130 '*' "*${tool%% *}: stopped" "mkfifo -m 600 held 2>/dev/null; exec 9<>held; python3 -c 'import os, signal, sys; signal.signal(signal.SIGINT, signal.default_int_handler); os.execv(sys.argv[1], sys.argv[1:])' $here/tools/$tool <&9 & sleep 8; kill -INT \$!; wait \$!"
+done
 
 heap=$here/tools/heap
 REGGIO_TRAIL=$(readlink -f "${REGGIO_TRAIL:-$("$here/tools/unproved" --where rg_trail)}")
@@ -253,7 +282,7 @@ expect 'new: its files' 0 '*my_pacer_is_here*' '' "cd copy/crates/host && grep -
 expect 'new: the same once more' 1 '' 'new: host is there already' "$new host"
 
 # Ctrl-C ends a tool with one line, and no traceback.
-stopped() { echo "timeout --preserve-status -s INT 2 $*"; }
+stopped() { echo "timeout --preserve-status -s INT 5 $*"; } # (by then it has begun, also at a load)
 expect 'compare: stopped' 130 '*' 'compare: stopped' "$(stopped "$compare" endless.rg)"
 expect 'draw: stopped' 130 '' 'draw: stopped' "tail -f /dev/null --pid \$\$ | $(stopped "$draw")"
 expect 'schedule: stopped' 130 '*' 'schedule: stopped' "$(stopped "$schedule" add.rg add.plan --many 10000)"

@@ -2,7 +2,7 @@
 written is only tried: whether it does, `reggio` says."""
 import re
 
-from loose import CAP_WORDS, CAPS, CLASSES, DECLARES, METHODS, NILS, VISIBLE, Node
+from loose import CAP_WORDS, CAPS, METHODS, NILS, VISIBLE, Node
 from outline import language
 
 NUMBERS = set("Int Integer Long i8 i16 i32 i64 i128 u8 u16 u32 u64 usize isize long short byte unsigned I64 I32 I128 U8 U32 U64 USize "
@@ -63,14 +63,22 @@ def joined(some):
     return " ".join(some)
 
 
+def paused(type):
+    """The type that a window opened behind a variable sees of it."""
+    if not type or " " not in type:
+        return type
+    cap, name = type.split()
+    return f"{language().paused.get(cap.encode(), cap.encode()).decode()} {name}"
+
+
 class Writer:
     """Rewrites a form of a tree. Where more than one thing may be meant, `script` says which is taken."""
 
     def __init__(self, reader, tree, script):
         self.reader, self.code, self.tree, self.script, self.counts = reader, reader.code, tree, script, []
-        self.edits, self.notes, self.pre, self.env, self.used = [], [], [], {}, set(re.findall(r"[A-Za-z_]\w*", reader.code))
+        self.edits, self.notes, self.pre, self.post, self.env, self.used = [], [], [], [], {}, set(re.findall(r"[A-Za-z_]\w*", reader.code))
         self.loop, self.result, self.home, self.method = None, None, None, None
-        self.classes = {it.name: it for it in tree.some if it.kind == "class"}
+        self.classes = {it.name: it for it in reversed(tree.some) if it.kind == "class"}
 
     # -- What is there
 
@@ -126,7 +134,7 @@ class Writer:
         home = self.classes.get(type.split()[-1]) if type else None
         if home is None:
             return None, None
-        for it in [*(home.params or []), *home.some]:
+        for it in home.some:
             if it.kind == "method" and it.name == name:
                 return it, (self.some_type(it.result) if it.result else None)
             if it.kind == "field" and name in it.names:
@@ -158,9 +166,9 @@ class Writer:
         if kind in ("compare", "is_nil", "within"):
             return "bool"
         if kind == "unary":
-            return "bool" if e.op == "not" else self.type_of(e.of) if e.op in ("&", "*") else "int"
+            return "bool" if e.op == "not" or e.op == "~" and self.type_of(e.of) == "bool" else self.type_of(e.of) if e.op in ("&", "*") else "int"
         if kind == "binary":
-            return "bool" if e.op in ("and", "or", "xor") else self.type_of(e.right) if e.op in ("??", "?:") else "int"
+            return "bool" if e.op in ("and", "or", "xor") else "int"
         if kind in ("paren", "wrap", "cast"):
             return self.type_of(e.of)
         if kind == "choice":
@@ -238,9 +246,6 @@ class Writer:
                 if it != e.said or not it.isdigit():
                     self.note(e.start, "A number is decimal digits alone.")
                 return str(int(m[1], base)), 8
-        m = re.fullmatch(r"([0-9]{1,9})e([0-9]{1,2})", it)
-        if m:
-            return str(int(m[1]) * 10 ** int(m[2])), 8
         raise Cannot(e.start, "Numbers are whole, and there are no fractions: count in tenths or hundredths, or round." if "." in it else "Numbers go from -9223372036854775808 to 9223372036854775807.")
 
     def value_text(self, e):
@@ -292,7 +297,10 @@ class Writer:
         return f"{of}[{self.value(e.at)}]", 8
 
     def value_step(self, e):
-        raise Cannot(e.start, "")
+        of = self.value(e.of, 8)
+        self.note(e.start, f"There is no `{e.op * 2}` inside of an expression: `{of} = {of} {e.op} 1;` is a statement.")
+        self.post.append(f"{of} = {of} {e.op} 1;")
+        return of, 8
 
     def value_unary(self, e):
         if e.op in ("&", "*"):
@@ -309,6 +317,8 @@ class Writer:
                 self.note(e.start, "The least number isn't written as one.")
                 return "-9223372036854775807 - 1", 5
             return "-" + self.value(e.of, 8), 7
+        if e.op == "~" and self.type_of(e.of) == "bool":
+            return self.negated(e.of)
         raise Cannot(e.start, "There are no operators on bits." if e.op == "~" else "")
 
     def negated(self, e):
@@ -327,6 +337,8 @@ class Writer:
 
     def value_binary(self, e):
         op = e.op
+        if op in ("&", "|") and "bool" in (self.type_of(e.left), self.type_of(e.right)):
+            op = {"&": "and", "|": "or"}[op]
         if op in ("or", "and"):
             if self.code[e.place] in "|&":
                 self.note(e.place, "For `&&` and `||` there are `and` and `or`.")
@@ -338,13 +350,6 @@ class Writer:
                 self.pre.append(f"let {name}: bool = {left}; if {'not ' if op == 'or' else ''}{name} {{ {joined(inner)} {name} = {right}; }}")
                 return name, 8
             return f"{left} {op} {right}", LEVELS[op]
-        if op == "xor":
-            return f"{self.value(e.left, 5)} != {self.value(e.right, 5)}", 4
-        if op in ("??", "?:"):
-            type = self.type_of(e.right) or self.choose(self.all_types())
-            name, left = self.fresh("v", "or_else"), self.value(e.left, 8)
-            self.pre.append(f"let {name}: {type} = {left}; if {name} is nil {{ {name} = {self.value(e.right)}; }}")
-            return name, 8
         if op == "&" and e.right.kind == "number" and e.right.said == "1":
             self.note(e.place, "There are no operators on bits.")
             return f"{self.value(e.left, 6)} % 2", 6
@@ -353,8 +358,8 @@ class Writer:
                 self.note(e.place, "There are no powers: write the product.")
                 return " * ".join([self.value(e.left, 7)] * int(e.right.said)), 6
             raise Cannot(e.place, "There are no powers: write the product.")
-        if op in ("|", "^", "&", "<<", ">>"):
-            raise Cannot(e.place, "There are no operators on bits.")
+        if op in ("|", "^", "&", "<<", ">>", "??", "?:", "xor"):
+            raise Cannot(e.place, "There are no operators on bits." if len(op) < 2 or op[0] in "<>" else "For truth values `!=` says that they differ." if op == "xor" else f"There is no `{op}`: ask `is nil` first, by an `if`.")
         if op == "//":
             self.note(e.place, "`//` begins a comment; `/` divides whole numbers.")
             op = "/"
@@ -393,10 +398,7 @@ class Writer:
         return ("not " if e.no else "") + f"{of} is nil", 3 if e.no else 4
 
     def value_within(self, e):
-        self.note(e.start, "Nothing asks whether an array has an element: a loop looks for it.")
-        has, at, row = self.fresh("has"), self.fresh("i", "at"), self.value(e.row, 8)
-        self.pre.append(f"let {has}: bool = false; let {at}: int = 0; while {at} < size {row} {{ if {row}[{at}] == {self.value(e.of, 5)} {{ {has} = true; }} {at} = {at} + 1; }}")
-        return ("not " if e.no else "") + has, 3 if e.no else 8
+        raise Cannot(e.start, "Nothing asks whether an array has an element: a loop looks for it.")
 
     def value_choice(self, e):
         self.note(e.test.start, "A value isn't chosen inside of an expression: an `if` is a statement.")
@@ -432,6 +434,8 @@ class Writer:
                 self.pre.append(f"let {taken}: {type or self.choose(self.all_types())} = nil; swap {taken}, {of};")
                 of = taken
             return f"{e.verb} {of}", ""
+        if kind == "binary" and e.op == "*" and e.left.kind == "list":      # [0] * 4
+            return self.row(Node("list", e.start, args=[(None, e.right)], sign="new"), name)
         if kind == "choice" and name:
             self.note(e.test.start, "A value isn't chosen inside of an expression: an `if` is a statement.")
             no = self.value(e.no) if e.no else START.get(self.type_of(e), "nil")
@@ -455,7 +459,7 @@ class Writer:
         size = self.value(e.size) if e.size is not None else self.value(e.args[0][1]) if e.args and home.element else self.choose(["1", "3"]) if home.element else None
         if e.args is not None and not home.element:
             self.note(e.start, "There are no constructors: `new C` makes an object whose fields are 0, `false` and nil, and behind it they are written.")
-            fields = [(it.names[0], it) for it in [*(home.params or []), *home.some] if it.kind == "field" and it.names]
+            fields = [(it.names[0], it) for it in home.some if it.kind == "field" and it.names]
             maker = next((it for it in home.some if it.kind == "method" and it.name in (named, "init", "__init__", "constructor", "new", "create", "set") and len(it.params) == len(e.args)), None) if all(not one for one, _ in e.args) else None
             if maker is not None and e.args:
                 tail = f" call {name or 'it'}.{maker.name if maker.name not in (named, '__init__', 'constructor', 'new') else 'init'}({', '.join(self.value(it) for _, it in e.args)});"
@@ -499,7 +503,7 @@ class Writer:
             return self.made(Node("new", e.start, type=[home], args=e.args, size=None, manager=None), name)
         if getattr(e, "macro", False):
             if word == "vec":
-                return self.row(Node("list", e.start, args=e.args, sign="["), name)
+                return self.row(Node("list", e.start, args=e.args[e.is_repeated:], sign="new" if e.is_repeated else "["), name)
             raise Cannot(e.start, TEXT if word == "format" else "")
         if of.kind == "name" and word not in self.env:
             one = args[0] if len(args) == 1 else None
@@ -512,20 +516,6 @@ class Writer:
                 return f"size {self.value(one, 8)}", ""
             if word in ("input", "readLine", "scan", "raw_input", "readline", "gets") and not args:
                 return "read", ""
-            if word in ("max", "min") and len(args) == 2:
-                a, b = self.value(args[0]), self.value(args[1], 5)
-                if name:
-                    return a, f" if {name} {'<' if word == 'max' else '>'} {b} {{ {name} = {b}; }}"
-                held = self.fresh("v", word)
-                self.pre.append(f"let {held}: int = {a}; if {held} {'<' if word == 'max' else '>'} {b} {{ {held} = {b}; }}")
-                return held, ""
-            if word == "abs" and one is not None:
-                held = name or self.fresh("v", "abs")
-                tail = f" if {held} < 0 {{ {held} = -{held}; }}"
-                if name:
-                    return self.value(one), tail
-                self.pre.append(f"let {held}: int = {self.value(one)};{tail}")
-                return held, ""
             if one is not None and word in ("int", "bool", "Some", "Ok", "Box", "Rc", "Arc", "Just", "Integer", "long", "parseInt", "float", "number"):
                 self.note(e.start, "There are no conversions and no boxes: the value stands for itself.")
                 return self.right(one, name)
@@ -592,7 +582,7 @@ class Writer:
 
     def put(self, node, *said):
         """Writes a statement, behind what it needs in front of it."""
-        some = [*self.ahead(), *(it for it in said if it)]
+        some, self.post = [*self.ahead(), *(it for it in said if it), *self.post], []
         if said and not node.__dict__.get("semi", True) and self.code[node.end:node.end + 1] != ";":
             self.note(node.end, "A statement ends with `;`.")
         self.replace(node.start, node.end, self.line_break(node.start).join(some))
@@ -654,10 +644,7 @@ class Writer:
         return new
 
     def target(self, e):
-        said = self.value(e, 8)
-        if self.pre and e.kind != "index":
-            raise Cannot(e.start, "")
-        return said
+        return self.value(e, 8)
 
     def on_assign(self, node):
         lefts, rights, op = node.lefts, node.rights, node.op
@@ -671,10 +658,7 @@ class Writer:
         if len(lefts) != 1 or len(rights) != 1:
             raise Cannot(node.start, "One assignment gives one value to one variable.")
         said = []
-        if node.chain:
-            self.note(node.start, "An assignment is a statement, and gives no value.")
-        lefts = [lefts[0], *node.chain]
-        left = self.target(lefts[-1])
+        left = self.target(lefts[0])
         if op:
             self.note(node.start, f"There is no `{op}=`: `{left} = {left} {op} ..;`.")
             level = LEVELS.get(op)
@@ -685,7 +669,7 @@ class Writer:
             # A name that nothing has yet is declared.
             first, tail = self.right(rights[0], left)
             of = self.type_of(rights[0])
-            if lefts[-1].kind == "name" and re.fullmatch(r"\w+", left) and left not in self.env and left != "self":
+            if lefts[0].kind == "name" and re.fullmatch(r"\w+", left) and left not in self.env and left != "self":
                 type = of or self.choose(self.all_types())
                 self.note(node.start, "A variable is declared before it is assigned: `let` gives its name, its type and its value.")
                 self.env[left] = type
@@ -695,8 +679,6 @@ class Writer:
                 said.append(f"{left} = {held};")
             else:
                 said.append(f"{left} = {first};{tail}")
-        for it in reversed(lefts[:-1]):
-            said.append(f"{self.target(it)} = {left};")
         self.put(node, *said)
 
     def on_alone(self, node):
@@ -707,7 +689,7 @@ class Writer:
             return self.put(node, f"{of} = {of} {e.op[0]} 1;")
         if e.kind == "text":
             return self.replace(node.start, node.end, "// " + joined(e.said.strip("\"'`").split()) + self.line_break(node.start))
-        if self.result and self.result.get("last") is node or self.method is not None and self.method.result and self.is_last(node):
+        if self.method is not None and self.method.result and self.is_last(node):
             self.note(node.start, "What a method gives is returned by `return ..;`, in the last place of its body.")
             return self.on_return(Node("return", node.start, of=e, end=node.end))
         if e.kind in ("call", "wrap", "paren"):
@@ -732,9 +714,6 @@ class Writer:
         for _, it in node.args:
             if it.kind == "text":
                 self.note(it.start, TEXT)
-                found = re.findall(r"\{([^{}:!]+)[^{}]*\}", it.said) if it.prefix == "f" else re.findall(r"\$\{?([\w.]+)", it.said)
-                from loose import Reader
-                shown += [self.value(Reader(one).expr()) for one in found]
             elif it.kind == "binary" and it.op == "+" and it.has(lambda one: one.kind == "text"):
                 self.note(it.start, TEXT)
                 parts = []
@@ -796,10 +775,6 @@ class Writer:
             self.note(node.start, "`swap` exchanges a variable with a field: two variables exchange by a third.")
             held = self.fresh("held")
             return self.put(node, f"let {held}: {self.type_of(node.some[0]) or self.choose(self.all_types())} = {a};", f"{a} = {b};", f"{b} = {held};")
-        elif "." in a:
-            self.note(node.start, "`swap` exchanges a variable with a field: two fields exchange by a variable.")
-            held, type = self.fresh("held"), self.member(self.type_of(node.some[0].of), node.some[0].name)[1]
-            return self.put(node, f"let {held}: {type or self.choose(self.all_types())} = nil;", f"swap {held}, {a};", f"swap {held}, {b};", f"swap {held}, {a};")
         self.put(node, f"swap {a}, {b};")
 
     # -- Blocks
@@ -995,7 +970,7 @@ class Writer:
             args = [it for _, it in row.args]
             low, high, by = ("0", self.value(args[0], 5), "1") if len(args) == 1 else (self.value(args[0]), self.value(args[1], 5), self.value(args[2]) if len(args) > 2 else "1")
             row, sign = None, ">" if by.startswith("-") else "<"
-        elif row.kind == "range":
+        elif row.kind == "range" and row.high is not None:
             low, high, by, sign = self.value(row.low), self.value(row.high, 5), "1", row.op
             row = None
         if row is None:
@@ -1050,7 +1025,7 @@ class Writer:
             name = self.fresh("z", "inner")
             self.note(node.start, "A window has a name for the bridge of its region: `enter y as z { .. }`.")
         self.replace(node.start, node.head, f"enter {of} as {name} ")
-        env, self.env = self.env, {one: (lambda cap, rest: (language().paused.get(cap.encode(), cap.encode()).decode() + rest))(it.split()[0], it[len(it.split()[0]):]) if " " in it else it for one, it in self.env.items()}
+        env, self.env = self.env, {one: paused(it) for one, it in self.env.items()}
         self.env[name] = "mut " + type.split()[-1] if type else None
         self.block(node.body)
         self.braces(node.body, self.indent(node.start))
@@ -1157,9 +1132,20 @@ class Writer:
 
     def on_class(self, node):
         before, self.home = self.home, node
-        if node.element:
+        if node.element is not None or node.opens is None:
             return
-        if node.word in ("enum", "trait", "interface", "protocol", "impl", "namespace", "mod", "module", "union") or node.params:
+        other = self.classes.get(node.name)
+        if node.word == "impl" and other is not None and other is not node and other.shuts is not None:
+            self.note(node.start, ABOUT["impl"])
+            self.home = other
+            for it in node.some:
+                self.stmt(it)
+            said = self.render(node.some[0].start, node.some[-1].end) if node.some else ""
+            self.replace(node.start, node.end, "")
+            self.insert(other.shuts.start, said + "\n")
+            self.home = before
+            return
+        if node.word in ("enum", "trait", "interface", "protocol", "impl", "namespace", "mod", "module", "union"):
             raise Cannot(node.start, ABOUT.get(node.word, ""))
         if node.word != "class" or node.base:
             self.note(node.start, ABOUT.get(node.word, "") if node.word != "class" else "A class has a name alone: no inheritance, no interfaces, no generics. A field holds the other object.")
@@ -1172,7 +1158,7 @@ class Writer:
         if node.form != "brace":
             self.note(node.opens[0], "A block stands in braces: `{ .. }`.")
             last = node.some[-1].end if node.some else node.opens[1]
-            self.replace(*node.opens, "{") if self.code[node.opens[0]] == ":" else self.insert(node.opens[0], "{ ")
+            self.replace(*node.opens, "{") if self.code[node.opens[0]:node.opens[1]] == ":" else self.insert(node.opens[0], "{ ")
             self.insert(last, "\n}")
         if node.semi:
             self.note(node.end, "Behind a class stands no `;`.")
@@ -1194,7 +1180,9 @@ class Writer:
     def on_top(self, node):
         """What stands outside of classes: a function, a variable, a statement."""
         main = next((it for it in self.tree.some if it.kind == "main"), None)
-        if node.kind == "method" and node.name == "main" or node.kind == "method" and node.name in ("Main",):
+        if self.code[node.start:node.start + 1] in "}])":
+            raise Cannot(node.start, "")
+        if node.kind == "method" and node.name == "main" and node.body is not None:
             self.note(node.start, "The program's statements stand in `main arena { .. }`, which is its last part.")
             return self.on_main(Node("main", node.start, head=node.head, manager=None, body=node.body, result=[]))
         if node.kind == "method":
@@ -1234,10 +1222,7 @@ def scope(writer, path):
                     writer.env.update(dict.fromkeys(it.names, type))
         elif outer.kind == "enter" and inner is outer.body:
             type = writer.type_of(outer.of)
-            for one, it in list(writer.env.items()):
-                if it and " " in it:
-                    cap, name = it.split()
-                    writer.env[one] = f"{language().paused.get(cap.encode(), cap.encode()).decode()} {name}"
+            writer.env = {one: paused(it) for one, it in writer.env.items()}
             writer.env[outer.name] = "mut " + type.split()[-1] if type else None
 
 

@@ -151,7 +151,7 @@ class Case:
         whole = self.code[first:start] + put
         if put.rstrip()[-1:] not in (";", "}"):
             whole += re.match(r"[^;{}\n]*(;|\s*\{|)", self.code[end:])[0]
-        whole = line_words(whole)
+        whole = line_words(whole) or whole.strip()
         return (where + f"`{whole[:300] + (' ..' if len(whole) > 300 else '')}`").encode("latin-1").decode("utf-8", "replace")
 
     def written(self, *places):
@@ -391,7 +391,7 @@ def of_syntax(reggio, source, found, at):
     is_behind = "\n" in case.code[prior:here] or case.code[here] == "}"
     found.reasons, found.cures = case.written(*((prior, here) if is_behind else (here, prior)))
     found.reasons = found.reasons[:2]
-    for start, end, put in reading.signs_tried(source, at) if not found.cures else ():
+    for start, end, put in reading.signs_tried(source, at) if not found.cures + found.reasons else ():
         put = put.decode()
         if case.is_taken(start, end, put, here, here) == 1:
             it, then = case.code[start:end][:40], case.code[here:source.tokens[at][1]][:40]
@@ -695,6 +695,9 @@ def of_other_type(case, e, type, got, what):
     edits, is_plain = [], e.kind in ("name", "path")
     if got in START and (type in START):
         name = node.names[0] if node.kind == "let" else case.src(node.lefts[0]) if node.kind == "assign" else None
+        if got == "bool" and node.kind == "assign":      # x + b, where a truth value counts as 1
+            said.append("A truth value is no number: an `if` decides what is added.")
+            edits.append(case.whole(f"if {src} {{ {case.replaced(e, '1')} }}"))
         if type == "bool":
             edits += put([f"{src} != 0" if is_plain or e.kind == "number" else f"({src}) != 0"])
         elif name and e is (node.right if node.kind == "let" else node.rights[0]):
@@ -717,6 +720,9 @@ def of_other_type(case, e, type, got, what):
         if type in ("bool", "shown"):
             edits += put([f"not {src} is nil", f"{src} is nil"])
         return said, edits
+    if " " in type and got in START:
+        said.append("A reference leads to an object, or is nil.")
+        return said, put([f"new {type.split()[1]}", "nil"])
     if " " not in type or " " not in got:
         return said, edits
     (cap, of), (mine, its) = type.split(), got.split()
@@ -756,6 +762,10 @@ def of_other_type(case, e, type, got, what):
         if node.kind == "assign" and node.lefts[0].kind == "name":
             it = case.declared(node.lefts[0].name)
             edits += [(*it.cap, mine)] if it is not None and it.cap else []
+        elif node.kind == "assign" and node.lefts[0].kind == "path" and mine in ("mut", "imm"):
+            member = case.names.member(case.type(node.lefts[0].of), node.lefts[0].name)[0]
+            m = re.compile(rf"\b{node.lefts[0].name}\s*:\s*(\w+)").search(case.code, member.start) if member is not None else None
+            edits += [(m.start(1), m.end(1), mine)] if m else []
         method = next((case.names.member(case.type(one.of.of), one.of.name)[0] for one in every(node) if one.kind == "call" and one.of.kind == "path" and any(arg is e for _, arg in one.args)), None)
         if method is not None and method.kind == "method":
             m = re.search(rf"\b{re.escape(what.split('`')[1])}\s*:\s*(\w+)", case.code[method.start:method.head])
@@ -819,7 +829,7 @@ def of_capability(case):
             m = re.compile(r"\s*def\s+(\w+)").match(case.code, method.start)
             edits.append((m.start(1), m.end(1), "paused"))
         right = it.node.right if it.kind == "variable" else None
-        if cap == "imm":
+        if cap == "imm" and (method is None or method.body is not None and method.body.has(lambda it: it.kind in ("assign", "swap", "enter"))):
             said.append("What is frozen is never changed again: it is written in its window, before `freeze`.")
             if right is not None and right.kind == "verb" and e.kind in ("name", "path"):
                 z = case.fresh("z", "inner")
@@ -1024,7 +1034,7 @@ def of_iso_field(case):
         if member is None or member.kind != "field" or member.type[0] != "iso":
             continue
         field, type = case.src(e), " ".join(member.type)
-        said = [f"The field `{field}` owns its region (`{type}`): it is never copied or assigned, only `swap` with a variable changes it."]
+        said = [f"The field `{field}` owns its region (`{type}`): it is neither copied nor assigned. `swap` exchanges it with a variable, and `enter` opens it where it is."]
         g = case.fresh("out", "taken")
         if use == "target":
             right = node.rights[0]
@@ -1036,6 +1046,8 @@ def of_iso_field(case):
                     if it is not None and it.kind == "variable" and it.node.right is not None and it.node.right.kind == "new":
                         edits += [[*some, case.whole(f"swap {right.name}, {field};")] for some in made_as_iso(case, it)]
                 return said, edits
+            if right.kind == "path" and (case.names.member(case.type(right.of), right.name)[1] or "").startswith("iso "):
+                return said, [case.whole(f"let {g}: {type} = nil; swap {g}, {case.src(right)}; swap {g}, {field};")]
             made = case.src(right)
             made = f"new {type} in arena" if right.kind == "new" and not re.match(r"new\s+iso\b", made) else made
             return said, [case.whole(f"let {g}: {type} = {made}; swap {g}, {field};")]
@@ -1087,7 +1099,7 @@ def of_duplicate(case):
         stop = node.end if node.kind == "enter" else outer.end if outer is not None else node.end
         renamed = re.sub(rf"(?<![\w.]){name}\b", new, case.code[node.start:stop])
         if node.kind == "let" and node.right is not None:
-            cut = node.right.start - node.start     # (its value is that of the other one)
+            # (its value is that of the other one)
             renamed = re.sub(rf"(?<![\w.]){name}\b", new, case.code[node.start:node.right.start]) + case.src(node.right) + re.sub(rf"(?<![\w.]){name}\b", new, case.code[node.right.end:stop])
         return said, [(node.start, stop, renamed), *edits]
     if node.kind == "method" and len(dict(node.params)) < len(node.params):

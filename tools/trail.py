@@ -1,5 +1,6 @@
 """What tools/explore and tools/heap ask of the program rg_trail (docs/embedding.md, "A trail"): the lines of a run."""
 import contextlib
+import ending
 import json
 import os
 import re
@@ -7,8 +8,6 @@ import subprocess
 import sys
 import tempfile
 import threading
-
-import ending
 
 top = os.path.dirname(os.path.dirname(os.path.realpath(__file__)))
 MOST_STEPS = 10_000_000     # that rg_trail makes
@@ -138,13 +137,12 @@ def ended(it):
 
 
 def guarded(main, tool):
-    """Runs a tool's main, and says in a line why it has nothing to show."""
-    def tried():
+    """Runs a tool, which says in a line why it has nothing to show."""
+    def told():
         try:
             main()
-            return 0
         except Refused as why:
             print(f"{tool}: {why}", file=sys.stderr)
             return why.status
 
-    ending.run(tool, tried, 1)
+    ending.run(told)

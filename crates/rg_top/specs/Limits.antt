@@ -29,14 +29,12 @@ pub record LimitsAre : Type 0 where
   pub body_names : BODY_NAMES ≡ 256
   -- the signs of a statement (`one_sign`)
   pub statement_signs : STATEMENT_SIGNS ≡ 512
-
   -- the frames (`test .. Depth` of a call) and the elements of an array (`size_within`), past which a step traps
   pub frames : FRAMES ≡ 4096
   pub array_size : ARRAY_SIZE ≡ 65535
   -- the blanks in front of a number of the input (`next_number`), and its bytes (`token_number`)
   pub input_blanks : INPUT_BLANKS ≡ 4096
   pub input_token : INPUT_TOKEN ≡ 20
-
   -- the steps that words may ask for (`with_steps`, `steps_in`; clause `usage`), and those of `bulk` (`steps_of`; clause `notes`)
   pub most_steps : MOST_STEPS ≡ 1000000000
   -- the steps where words ask for none (`running`, `executing`, `steps_in`)
@@ -47,7 +45,6 @@ pub record LimitsAre : Type 0 where
   -- the size of `bulk` (`sized`; `usage`), and the number of the cown of `--keep` (`cown_in`; `usage`)
   pub most_size : MOST_SIZE ≡ 100000
   pub most_cown : MOST_COWN ≡ 9999
-
   -- the cowns (`with_cown`) and the behaviours (`with_turn`) of a plan, and the digits of a number in it (`number`)
   pub cowns : COWNS ≡ 256
   pub behaviours : BEHAVIOURS ≡ 4096
@@ -55,7 +52,6 @@ pub record LimitsAre : Type 0 where
   -- the numbers of a schedule (`schedule_of`), which the text of status 4 tells (`steps_of`; clause `notes`)
   pub schedule : SCHEDULE ≡ 1000000
   pub most_numbers : MOST_NUMBERS ≡ 1000000
-
   -- the bytes of a module (`MeansModule`) and of an image (`FileComes`)
   pub module_bytes : MODULE_BYTES ≡ 16777216
   pub image_bytes : IMAGE_BYTES ≡ 16777216

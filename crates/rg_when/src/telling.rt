@@ -23,7 +23,7 @@ use std::alloc::Global;
 // The image of what a cown has; None while a running behaviour has that.
 fn kept_text(alloc: Global, content: Content<'_>) -> Result<Option<ByteList>, Memory>
     ensures { (taken : ℕ) → IfOk result (λ text. text_answer text taken
-        ≡ kept_of (content_seen content) taken) }
+        ≡ kept_of (content_seen content.entry) taken) }
 {
     match content {
         Content::Away => Ok(None),
