@@ -594,7 +594,8 @@ class Writer:
         act(node)
 
     def on_raw(self, node):
-        raise Cannot(node.start, "")
+        word = re.match(r"\w*", self.code[node.start:])[0]
+        raise Cannot(node.start, ABOUT.get(word, "") if word not in self.env else "")
 
     def on_let(self, node):
         word, right, tails = node.word, node.right, []
@@ -714,13 +715,6 @@ class Writer:
         for _, it in node.args:
             if it.kind == "text":
                 self.note(it.start, TEXT)
-            elif it.kind == "binary" and it.op == "+" and it.has(lambda one: one.kind == "text"):
-                self.note(it.start, TEXT)
-                parts = []
-                while it.kind == "binary" and it.op == "+":
-                    parts.append(it.right)
-                    it = it.left
-                shown += [self.value(one) for one in reversed([*parts, it]) if one.kind != "text"]
             elif not (it.kind == "name" and it.name in ("endl", "env")) and not (it.kind == "path" and it.name == "endl"):
                 said, tail = self.right(it, None)
                 shown.append(self.lift(it, said, "shown") if re.match(r"(call|new|read|more|freeze|merge)\b", said) else said)
@@ -841,9 +835,7 @@ class Writer:
             return
 
     def on_block(self, node):
-        self.note(node.start, "A block stands behind `if`, `else`, `while` or `enter` alone.")
-        self.insert(node.start, "if true ")
-        self.block(node)
+        raise Cannot(node.start, "A block stands behind `if`, `else`, `while` or `enter` alone.")
 
     def on_if(self, node, at=None):
         word, place = node.word, at if at is not None else node.start
@@ -911,18 +903,11 @@ class Writer:
         if node.word != "while":
             self.note(node.start, ABOUT.get(node.word, ABOUT["for"]))
         before = self.enter_loop(node)
-        if node.bound is not None:
-            name, e = node.bound
-            said, tail = self.right(e, name)
-            type = self.type_of(e) or self.choose(self.all_types())
-            self.env[name] = type
-            ahead, turn, test = [f"let {name}: {type} = {said};{tail}"], f"{name} = {said};{tail}", f"not {name} is nil"
-        else:
-            test = self.truth(node.test) if node.test is not None else "true"
-            if node.word == "until":
-                test = f"not ({test})"
-            ahead = self.ahead()
-            turn = joined(re.sub(r"\blet (\w+): [\w ]+ =", r"\1 =", it) for it in ahead)
+        test = self.truth(node.test) if node.test is not None else "true"
+        if node.word == "until":
+            test = f"not ({test})"
+        ahead = self.ahead()
+        turn = joined(re.sub(r"\blet (\w+): [\w ]+ =", r"\1 =", it) for it in ahead)
         self.block(node.body)
         self.leave_loop(node, before, ahead, test, turn)
 
