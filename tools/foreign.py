@@ -542,6 +542,11 @@ class Writer:
                     raise Cannot(of.place, "Arrays have no methods, and keep their size: a loop goes along, `let i: int = 0; while i < size row { .. row[i] .. i = i + 1; }`, and what grows is a list of objects.")
         if any(it.kind == "function" for it in args):
             raise Cannot(e.start, FUNCTION)
+        if of.kind == "path" and method is None and home is not None:
+            if word in ("equals", "eq", "is_equal") and len(args) == 1:
+                self.note(of.place, "Whether two references lead to one object, `==` says.")
+                return f"({self.value(of.of, 5)} == {self.value(args[0], 5)})", ""
+            raise Cannot(of.place, f"`{home.name}` has no method `{word}`.")
         path = self.value(of, 8)
         if not getattr(e, "is_called", False):
             self.note(e.start, "A method is called with `call` in front.")
@@ -903,7 +908,13 @@ class Writer:
         if node.word != "while":
             self.note(node.start, ABOUT.get(node.word, ABOUT["for"]))
         before = self.enter_loop(node)
-        test = self.truth(node.test) if node.test is not None else "true"
+        if node.bound is not None:
+            self.note(node.start, "A variable is declared in front of a loop, or in its body.")
+            (name, e), type = node.bound, self.type_of(node.bound[1]) or self.choose(self.all_types())
+            said = self.value(e)
+            self.insert(node.body.opens[1], f" let {name}: {type} = {said};")
+            self.env[name] = type
+        test = f"not {said} is nil" if node.bound is not None else self.truth(node.test) if node.test is not None else "true"
         if node.word == "until":
             test = f"not ({test})"
         ahead = self.ahead()

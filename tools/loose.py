@@ -567,9 +567,13 @@ class Reader:
 
     def read_while(self, start, indent):
         word = self.take().text
+        if word == "while" and self.at("let"):      # while let Some(x) = e
+            self.k -= 1
+            node = self.read_if(start, indent)
+            return self.done(Node("while", start, word=word, test=node.test, bound=node.bound, head=node.head, body=node.yes))
         test = self.head() if word not in ("loop", "forever") else None
         head = self.tok().start
-        return self.done(Node("while", start, word=word, test=test, head=head, body=self.block(indent)))
+        return self.done(Node("while", start, word=word, test=test, bound=None, head=head, body=self.block(indent)))
 
     def read_do(self, start, indent):
         self.take()

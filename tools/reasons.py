@@ -899,7 +899,7 @@ def of_unavailable(case):
         elif node.kind == "swap":
             said.append("A region can't lie in itself: the variable that is swapped is another one.")
             edits += [(at.start, at.end, one) for one, it in case.variables() if it == type and one != name]
-        else:
+        elif node.kind != "assign" or at is not node.lefts[0]:
             edits.append((at.start, at.start + len(name), lent.name))
         return said, edits
     if is_ready(case, node.start, name):
