@@ -657,6 +657,8 @@ class Reader:
 
     def read_word(self, start, indent):
         node = Node("command", start, word=self.take().text, of=None)
+        if self.at("!") and self.tok(1).text == "(":      # assert!(..)
+            self.take()
         if not self.at(";", "}", "{") and not self.tok().is_fresh:
             node.of = self.expr()
         return self.ended(node)
