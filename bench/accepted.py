@@ -1,4 +1,4 @@
-"""How long `reggio check` or `reggio code` takes on accepted sources of 64 KiB to 1 MiB: for check.sh and code.sh.
+"""How long `reggio check` or `reggio code` takes on accepted sources of 64 KiB to 1 MiB: for code.sh.
 Usage: accepted.py WORK PROGRAM TURNS COMMAND"""
 import subprocess, sys, time
 

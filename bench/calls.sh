@@ -210,14 +210,21 @@ def told(text, v, at, of, depth=0, args=()):
                         elif con or other[0] in ("true", "false"): add({con or other[0]: every})
                         else: add({"all": every})
                     elif one == ["Some", v]: add({"all": every})
+        # what was taken, by a function of the answer, is told of each answer
+        if part_terms[:1] == ["Appends"] and speaks(part_terms[-1], v): add({"all": WHEN | spoken(part)})
         if v in part_terms[1:] and "≡" not in part_terms and not part_terms[0][0].islower() and depth < 7:
             k = part_terms.index(v) - 1
             there, items = defined(part_terms[0], at, of)
             tags = [spoken(t) for t in part_terms[1:]]
-            for item in items: add(in_item(item, k, tags, there, depth))
+            for item in items: add(in_item(item, k, tags, there, depth, any(names_case(it, k) for it in items)))
     return out
 
-def in_item(item, k, tags, at, depth):
+def names_case(item, k):
+    """Whether a row of a definition names an answer at a place."""
+    patterns = terms(flat(item).partition(" = ")[0])[1:]
+    return k < len(patterns) and " : " not in item.partition("=")[0] and case_of(patterns[k])[0] is not None
+
+def in_item(item, k, tags, at, depth, is_row=False):
     """What an item of a definition tells of its argument at a place."""
     item = flat(re.sub(r"(?m)^ +pub [^\s:]+ : ", "; ", item))
     if re.match(r"(?:\w+ )*record ", item):
@@ -239,6 +246,8 @@ def in_item(item, k, tags, at, depth):
         if patterns[k] in ("true", "false"): return {patterns[k]: said | WHEN}
         return told_case(patterns[k], body, said, at, depth)
     more = told(body, patterns[k], at, None, depth + 1, tuple(known))
+    # a row for all answers that no row before it names
+    if is_row and said: more = {**more, "all": more.get("all", frozenset())}
     return {con: inner & WHEN | said for con, inner in more.items()}
 
 def bare(text):
@@ -296,6 +305,20 @@ class Call:
 
     def takes_memory(self): return bool(MEMORY & {*self.refuses})
 
+    def passing(self, test, truth):
+        """The answers of which a test is true, or false."""
+        rows = [i for i in map(flat, defined(test, None, self.imports)[1]) if i.endswith("= " + truth)]
+        return {case_of(terms(row.partition(" = ")[0])[1])[0] for row in rows if len(terms(row.partition(" = ")[0])) > 1}
+
+    def named(self, text):
+        """The statuses that a clause names, or those of a variable that pass the tests in front of it."""
+        of = re.match(r"\((\w+) : Status\)", text)
+        if not of: return {*re.findall(r"Status\.(\w+)", text)}
+        tests, front = rf"\b(\w+) {of[1]} ≡ true", text.rpartition(" → ")[0]
+        # (a record of tests has its own variable, of the same name)
+        records = [i for r in re.findall(rf"\b([A-Z]\w*) [^→]* {of[1]}$", front) for i in map(flat, defined(r, None, self.imports)[1])]
+        return set.intersection(*(self.passing(it, "true") for it in re.findall(tests, " ".join([front, *records]))))
+
     def speaks(self, refusal, text):
         """Whether a clause says when a refusal comes, and of which written arguments it says what holds behind it."""
         change = frozenset(a for a in self.written if f"{a}.new" in text and f"{a}.old" in text)
@@ -325,12 +348,9 @@ class Call:
         if re.match(r"result ≢ (\w+\.)?(\w+) →", body):
             return False, frozenset() if body.split(" →")[0].endswith(refusal) else change
         if m := re.match(r"(OnTrue|OnFalse) \((\w+) result\) ", body):
-            there, items = defined(m[2], None, self.imports)
-            good = {case_of(terms(i.partition(" = ")[0])[1])[0] for i in map(flat, items)
-                    if i.endswith("= " + m[1][2:].lower()) and len(terms(i.partition(" = ")[0])) > 1}
-            return False, change if refusal in good else frozenset()
+            return False, change if refusal in self.passing(m[2], m[1][2:].lower()) else frozenset()
         if m := re.match(r"(Exactly|ExactlyWhere) .*", body):
-            return bool(re.search(rf"Status\.{refusal}\b", text)), frozenset()
+            return refusal in self.named(text), frozenset()
         if re.match(r"result ≡ (?!Err|Ok|Some|None|true|false)", body) or body.endswith((" ≡ Some result", " ≡ result")):
             return True, change
         # an equation with an image of the answer that keeps each refusal tells of each answer

@@ -3,13 +3,13 @@
 # instruction, stands among the patterns; with how many, and what all crates have together. Examples are left out. With no
 # words it takes two forms that stand for all, a right side and a statement with a block, and compares the crates that have
 # a row for one of them with the table 'A new form of the language' in docs/architecture.md: its status is 1 where one of
-# the two has more. Not a part of the gate.
+# the two has more. Shapes of steps aren't counted, since a form needs none. Not a part of the gate.
 # Usage: bench/form.sh [WORD..]   as bench/form.sh freeze Freeze
 cd "$(dirname "$0")/.." && exec python3 - "$@" <<'PY'
 import glob, re, sys
 
 words = sys.argv[1:] or ["merge", "Merge", "enter", "Enter", "EnterField"]
-word = r"\b(?:" + "|".join(map(re.escape, words)) + r")\b"
+word = r"\b(?<!Shape::)(?<!shape\.)(?:" + "|".join(map(re.escape, words)) + r")\b"
 
 def rows(path):
     """The number of equations of a file of definitions or proofs, or of arms of a source, with a word among the patterns."""
@@ -21,7 +21,7 @@ def rows(path):
                 arm = re.match(r"\s*(.*?)\s*=>", line)
                 found += bool(arm and re.search("::" + word, arm[1]))
             else:
-                row = re.match(r"\s*(?!use |let |pub |abbrev |record |data |module )[^\s(){}:=]+ (.*?) =(?: |$)", line)
+                row = re.match(r"\s*(?!use |let |pub |abbrev |record |data |module |→)[^\s(){}:=]+ (.*?) =(?: |$)", line)
                 found += bool(row and " : " not in row[1] and re.search(word, row[1]))
                 found += bool(re.match(r"\s*[\[|]? *\(?(?:\w+\.)?" + word + r".*↦", line))
     return found

@@ -2,7 +2,7 @@
 # Gives `exec` modules that were made to harm it, of up to 16 MiB: counts that promise more than is there, millions of instructions of one
 # kind, expressions and blocks deep in one another, tables of millions of entries. Each must be answered as its bytes are, within three
 # seconds of a processor and by no signal. Prints each with its answer, its time and the most memory that it took. Not a part of the gate.
-# Usage: bench/hostile.sh [-] [PROGRAM]
+# Usage: [REGGIO=PROGRAM] bench/hostile.sh
 set -eu
 . "$(dirname "$0")/common.sh"
 python3 - "$program" "$work" <<'PY'

@@ -2,7 +2,7 @@
 # Each limit of a source (docs/language.md, "Limits"), row by row: the source at the limit is read, and the one
 # past it has its fault at its own token, which stands on a line of its own. Each source goes through `reggio fmt`;
 # its notes and status are compared with the row, and at the end the rows that differ are counted.
-# Not a part of the gate. Usage: bench/limits.sh [TURNS PROGRAM], where TURNS isn't used
+# Not a part of the gate. Usage: [REGGIO=PROGRAM] bench/limits.sh
 set -eu
 . "$(dirname "$0")/common.sh"
 python3 - "$program" "$work" <<'PY'

@@ -4,7 +4,7 @@
 # ones with `out of memory` behind them. Without a file: all programs of examples/ with `--every 1 --report`, `bulk 300`,
 # `pack` of each program of examples/, `when` of each that has a plan, which writes nothing where it ends with 8, one of them kept
 # as an image and one that begins with an image, and each source that examples/rows.txt gives to `slide`, and every_second.rg, by `run` and `slide` with and without a report.
-# It needs a C compiler, and isn't a part of the gate. Usage: bench/memory.sh [FILE [OPTION..]]
+# It needs a C compiler, and isn't a part of the gate. Usage: [REGGIO=PROGRAM] bench/memory.sh [FILE [OPTION..]]
 set -eu
 words=("$@")
 set --

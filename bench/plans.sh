@@ -2,7 +2,7 @@
 # Gives bad plans, bad schedules and bad words to `when`, each rule broken alone, at the edges of each limit and at each place of
 # a schedule, and beside them good ones that look like them; the table of docs/diagnostics.md, "E93 plan", is tried row by row.
 # What each gives, status, output and notes, stands here. Prints what was otherwise, and a count; its status is 0 where nothing
-# was. Not a part of the gate. Usage: bench/plans.sh [- [PROGRAM]]
+# was. Not a part of the gate. Usage: [REGGIO=PROGRAM] bench/plans.sh
 set -eu
 . "$(dirname "$0")/common.sh"
 python3 - "$work" "$program" "$here/docs/diagnostics.md" <<'PY'

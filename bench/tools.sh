@@ -104,6 +104,16 @@ expect 'compare: bytes that are no UTF-8' 1 '' 'compare: bytes.rg: E01 byte at l
 expect 'compare: a program' 0 'managers *arena *all wrote the same' '' "$compare seven.rg"
 expect 'compare: a trap' 0 'managers *  3*all wrote the same' '' "$compare trap.rg"
 expect 'compare: a program that never ends' 0 'managers *  4*all wrote the same' '' "$compare endless.rg"
+printf '# a machine\nReggio\t100\t200.5\t90\t201\nReggio\t1000\t210\t90\t201\nLua, whole\t100\t300\t90\t300\n' >pauses.txt
+printf 'Reggio\t100\tmany\t90\t201\n' >words.txt
+printf 'Reggio\t0\t1\t1\t1\n' >zero.txt
+expect 'compare: a plot' 0 '<svg*Reggio*Lua, whole*a machine*</svg>' '' "$compare --plot pauses.txt"
+expect 'compare: a plot of one row' 0 '<svg*</svg>' '' "head -n 2 pauses.txt >one.txt; $compare --plot one.txt"
+expect 'compare: a plot of nothing' 1 '' 'compare: empty.rg: no row of pauses*' "$compare --plot empty.rg"
+expect 'compare: a plot of words' 1 '' 'compare: words.txt: no row of pauses: *' "$compare --plot words.txt"
+expect 'compare: a plot of zeros' 1 '' 'compare: zero.txt: a row with nothing: *' "$compare --plot zero.txt"
+expect 'compare: a plot of noise' 1 '' 'compare: noise.rg: no row of pauses*' "$compare --plot noise.rg"
+expect 'compare: a plot of two files' 2 '' 'usage: tools/compare *' "$compare --plot pauses.txt pauses.txt"
 expect 'compare: no program' 1 '' 'compare: missing: No such file or directory' "REGGIO=missing $compare seven.rg"
 
 schedule=$here/tools/schedule
@@ -173,26 +183,65 @@ for tool in explain\ --trap\ endless.rg compare\ endless.rg server draw; do
 done
 
 heap=$here/tools/heap
-export REGGIO_WATCH=${REGGIO_WATCH:-$here/crates/rg_watch/out/rg_watch}
-if [ -x "$REGGIO_WATCH" ]; then
-  expect 'heap: no file' 2 '' 'usage: tools/heap *' "$heap"
-  expect 'heap: no steps' 2 '' 'usage: tools/heap *' "$heap seven.rg"
-  expect 'heap: an option that is none' 2 '' 'usage: tools/heap *' "$heap seven.rg 1 --what"
-  expect 'heap: steps that are no number' 2 '' 'heap: 1x is no number*' "$heap seven.rg 1x"
-  expect 'heap: a missing file' 1 '' 'heap: missing: No such file or directory' "$heap missing 1"
-  expect 'heap: a folder' 1 '' 'heap: folder: Is a directory' "$heap folder 1"
-  expect 'heap: an empty file' 1 '' 'heap: empty.rg: not accepted' "$heap empty.rg 1"
-  expect 'heap: more than 1 MiB' 1 '' 'heap: long.rg: not accepted' "$heap long.rg 1"
-  expect 'heap: noise' 1 '' 'heap: noise.rg: not accepted' "$heap noise.rg --time"
-  expect 'heap: a name that is no UTF-8' 0 '<svg*no object*</svg>' '' "cp seven.rg \$'\\xff.rg'; LC_ALL=C PYTHONUTF8=0 $heap \$'\\xff.rg' 1"
-  expect 'heap: no step' 0 '<svg*region 0, arena*</svg>' '' "$heap seven.rg 0"
-  expect 'heap: a trap, as DOT' 0 'digraph*0 A*' '' "$heap trap.rg 9 --dot"
-  expect 'heap: over time, a trap' 0 '<svg*trap at line 4*</svg>' '' "$heap trap.rg --time"
-  expect 'heap: a program that never ends' 0 '<svg*held*</svg>' '' "$heap endless.rg --time"
-  expect 'heap: a missing input' 1 '' 'heap: missing: No such file or directory' "$heap seven.rg 1 --input missing"
-  expect 'heap: no program' 127 '' "heap: missing isn't built*" "REGGIO_WATCH=missing $heap seven.rg 1"
-else
-  echo "left out: heap ($REGGIO_WATCH isn't built)"
+REGGIO_TRAIL=$(readlink -f "${REGGIO_TRAIL:-$("$here/tools/unproved" --where rg_trail)}")
+export REGGIO_TRAIL
+expect 'heap: no file' 2 '' 'heap: usage: tools/heap *' "$heap"
+expect 'heap: no steps' 2 '' 'heap: usage: tools/heap *' "$heap seven.rg"
+expect 'heap: an option that is none' 2 '' 'heap: usage: tools/heap *' "$heap seven.rg 1 --what"
+expect 'heap: steps and a line' 2 '' 'heap: usage: tools/heap *' "$heap seven.rg 1 --line 1"
+expect 'heap: steps that are no number' 2 '' 'heap: STEPS 1x is no number*' "$heap seven.rg 1x"
+expect 'heap: a missing file' 1 '' 'heap: missing: No such file or directory' "$heap missing 1"
+expect 'heap: a folder' 1 '' 'heap: folder: Is a directory' "$heap folder 1"
+expect 'heap: an empty file' 1 '' 'heap: empty.rg: E10 syntax at line 1' "$heap empty.rg 1"
+expect 'heap: a fault' 1 '' 'heap: fault.rg: E20 unknown at line 3' "$heap fault.rg 1"
+expect 'heap: more than 1 MiB' 9 '' 'heap: long.rg: source too long' "$heap long.rg 1"
+expect 'heap: noise' 1 '' 'heap: noise.rg: E01 byte at line *' "$heap noise.rg --time"
+expect 'heap: a name that is no UTF-8' 0 '<svg*no object*</svg>' '' "cp seven.rg \$'\\xff.rg'; LC_ALL=C PYTHONUTF8=0 $heap \$'\\xff.rg' 1"
+expect 'heap: no step' 0 '<svg*region 0, arena*</svg>' '' "$heap seven.rg 0"
+expect 'heap: a line' 0 '<svg*behind step 1, in front of line 4*0 A*</svg>' '' "$heap trap.rg --line 4"
+expect 'heap: a line that is not reached' 1 '' "heap: trap.rg: line 1 isn't reached" "$heap trap.rg --line 1"
+expect 'heap: a trap, as DOT' 0 'digraph*0 A*' '' "$heap trap.rg 9 --dot"
+expect 'heap: over time, a trap' 0 '<svg*trap nil at line 4*</svg>' '' "$heap trap.rg --time"
+expect 'heap: a missing input' 1 '' 'heap: missing: No such file or directory' "$heap seven.rg 1 --input missing"
+expect 'heap: no program' 127 '' "heap: missing can't be run" "REGGIO_TRAIL=missing $heap seven.rg 1"
+
+explore=$here/tools/explore
+expect 'explore: no file' 2 '' 'explore: usage: tools/explore *' "$explore"
+expect 'explore: three files' 2 '' 'explore: usage: tools/explore *' "$explore a b c"
+expect 'explore: an option that is none' 2 '' 'explore: usage: tools/explore *' "$explore seven.rg --what"
+expect 'explore: an option of runs, for a plan' 2 '' 'explore: usage: tools/explore *' "$explore add.rg add.plan --from 1"
+expect 'explore: a number that is none' 2 '' 'explore: --from 1x is no number*' "$explore seven.rg --from 1x"
+expect 'explore: too many steps' 2 '' 'explore: --steps 20001 is no number up to 20,000' "$explore seven.rg --steps 20001"
+expect 'explore: a missing file' 1 '' 'explore: missing: No such file or directory' "$explore missing"
+expect 'explore: a missing input' 1 '' 'explore: nothing.in: No such file or directory' "$explore seven.rg --input nothing.in"
+expect 'explore: a folder' 1 '' 'explore: folder: Is a directory' "$explore folder"
+expect 'explore: a fault, and no page' 1 '' 'explore: fault.rg: E20 unknown at line 3' "$explore fault.rg -o fault.html; s=\$?; ls fault.html 2>&-; exit \$s"
+expect 'explore: an empty file' 1 '' 'explore: empty.rg: E10 syntax at line 1' "$explore empty.rg"
+expect 'explore: more than 1 MiB' 9 '' 'explore: long.rg: source too long' "$explore long.rg"
+expect 'explore: noise' 1 '' 'explore: noise.rg: E01 byte at line *' "$explore noise.rg"
+expect 'explore: a page' 0 'wrote seven.html, for a browser' '' "$explore seven.rg"
+expect 'explore: the page again' 0 'wrote seven.html, for a browser' '' "$explore seven.rg"
+expect 'explore: another file of its name' 1 '' 'explore: seven.html is there, and is no page of this tool*' "echo >seven.html; $explore seven.rg"
+expect 'explore: standard output' 0 '<!doctype html>*</html>' '' "$explore seven.rg -o -"
+expect 'explore: a page that cannot be written' 1 '' 'explore: folder: Is a directory' "$explore seven.rg -o folder"
+expect 'explore: a page without a folder' 1 '' 'explore: nowhere/a.html: No such file or directory' "$explore seven.rg -o nowhere/a.html"
+expect 'explore: a trap' 0 '*"end":"trap nil","in":4*' '' "$explore trap.rg -o -"
+expect 'explore: more steps than asked' 0 'wrote endless.html*' 'explore: the run has more than * steps, and the page those from 0 to 50; --from 50 goes on' "$explore endless.rg --steps 50 --seconds 1"
+expect 'explore: from a step behind the end' 1 '' 'explore: the run has 2 steps, and --from is 9' "$explore seven.rg --from 9"
+expect 'explore: a line' 0 '*"start":{"s":1,"line":4,*' '' "$explore trap.rg --line 4 -o -"
+expect 'explore: a line that is not reached' 1 '' "explore: seven.rg: line 7 isn't reached" "$explore seven.rg --line 7"
+printf '// </script><!-- \\\xff & <b>\nmain arena { print 7; }\n' >odd.rg
+expect 'explore: a source that looks like a page' 0 '*// <\\/script><\\u0021--*' '' "$explore odd.rg -o -"
+expect 'explore: a name that is no UTF-8' 0 'wrote a.html*' '' "cp seven.rg \$'\\xff.rg'; LC_ALL=C PYTHONUTF8=0 $explore \$'\\xff.rg' -o a.html"
+expect 'explore: no program' 127 '' "explore: missing can't be run" "REGGIO_TRAIL=missing $explore seven.rg -o a.html"
+expect 'explore: a reader that goes' 1 '' '' "$explore seven.rg -o - | head -n 0; exit \${PIPESTATUS[0]}"
+if "$REGGIO" when add.rg add.plan </dev/null >/dev/null 2>&1; then
+  expect 'explore: a plan' 0 'wrote add.plan.html*' '' "rm -f add.plan.html; $explore add.rg add.plan"
+  expect 'explore: a plan with a schedule' 0 '*"name":"as given","numbers":\[0,1,0\]*' '' "echo 0 1 0 >s; $explore add.rg add.plan --input s -o -"
+  expect 'explore: a bad schedule' 1 '' 'explore: E94 schedule at line 2' "echo 0 one >s; $explore add.rg add.plan --input s -o -"
+  expect 'explore: a bad plan' 1 '' 'explore: E93 plan at line 2' "$explore add.rg bad.plan -o -"
+  expect 'explore: a missing plan' 1 '' 'explore: missing: No such file or directory' "$explore add.rg missing -o -"
+  expect 'explore: an empty plan' 1 '' 'explore: empty.rg has no behaviour' "$explore add.rg empty.rg -o -"
 fi
 
 image=$here/tools/image
@@ -221,6 +270,22 @@ expect 'image: a program without classes' 1 '' '*the program has 0 classes' "$im
 mkdir copy && (cd "$here" && tar cf - --exclude=./bin --exclude=./.git --exclude=out .) | tar xf - -C copy
 expect 'explain: no program and no rt' 127 '' "*isn't on the PATH*" "unset REGGIO; PATH=/usr/bin:/bin copy/tools/explain fault.rg"
 expect 'compare: no program and no rt' 127 '' "*isn't on the PATH*" "unset REGGIO; PATH=/usr/bin:/bin copy/tools/compare seven.rg"
+
+new=copy/tools/new
+expect 'new: no name' 2 '' 'usage: tools/new *' "$new"
+expect 'new: two names' 2 '' 'usage: tools/new *' "$new a b"
+expect 'new: a name that is none' 2 '' 'new: a name is a letter*' "$new 'a b'"
+expect 'new: a crate that is there' 1 '' 'new: rg_embed is there already' "$new rg_embed"
+expect 'new: a crate' 0 'crates/host is made: *' '' "$new host"
+expect 'new: its files' 0 '*my_pacer_is_here*' '' "cd copy/crates/host && grep -q '^host: rg_base' ../../crates.txt &&
+  ls proofs/Lib.antt specs/Lib.antt src/headroom.rt src/lines.rt src/shown.rt stdout && echo my_pacer_is_here"
+expect 'new: the same once more' 1 '' 'new: host is there already' "$new host"
+
+# Ctrl-C ends a tool with one line, and no traceback.
+stopped() { echo "timeout --preserve-status -s INT 5 $*"; } # (by then it has begun, also at a load)
+expect 'compare: stopped' 130 '*' 'compare: stopped' "$(stopped "$compare" endless.rg)"
+expect 'draw: stopped' 130 '' 'draw: stopped' "tail -f /dev/null --pid \$\$ | $(stopped "$draw")"
+expect 'schedule: stopped' 130 '*' 'schedule: stopped' "$(stopped "$schedule" add.rg add.plan --many 10000)"
 
 for tool in "$here"/tools/*; do
   if [ -f "$tool" ] && [ -x "$tool" ] && [ "$(basename "$tool")" != unproved ]; then

@@ -1,5 +1,5 @@
 -- The module of a program is one that some bytes spell.
-use Rattle.std.proofs.Common.{◌≡◌, refl, sym, ap, ◌∙◌, subst, inl, inr, ℕ, suc, ◌+◌, ◌-◌, ◌<◌, ◌^◌, Bool, false, true, List, [], ◌∷◌}
+use Rattle.std.proofs.Common.{◌≡◌, refl, sym, ap, ◌∙◌, subst, inl, inr, ℕ, suc, ◌-◌, ◌<◌, ◌^◌, Bool, false, true, List, [], ◌∷◌}
 use Rattle.std.proofs.Common.{length, drop, get_or, zip, replicate, All, Some, arith}
 use Rattle.std.proofs.lemmas.Bool.{cases_order}
 use Rattle.std.proofs.lemmas.List.{get_or-replicate, get_or_past, length-replicate, length-map}
@@ -16,11 +16,11 @@ use Rattle.rg_code.specs.declared.op.Op.{Op}
 use Rattle.rg_code.specs.Code.{Code}
 use Rattle.rg_code.specs.Lowering.{lowered}
 use Rattle.rg_code.specs.Places.{is_mark}
-use Rattle.rg_spell.specs.declared.rows.Head.{Head}
 use Rattle.rg_spell.specs.Spelling.{FitsOp, FitsMap, FitsRow, FitsShape}
 use Rattle.rg_module.specs.Parts.{Parts, filled_up, with_code}
-use Rattle.rg_module.specs.Follows.{body, entries}
+use Rattle.rg_module.specs.Follows.{body}
 use Rattle.rg_module.specs.Spelling.{IsSpelt}
+use Rattle.rg_module.proofs.Counts.{entries-length}
 use Rattle.rg_build.specs.Maps.{maps_of}
 use Rattle.rg_build.specs.ModuleOf.{map_here, maps_behind, laid, shapes_of, heads_of, module_of}
 use Rattle.rg_build.specs.declared.laying.Laying.{Laying}
@@ -84,10 +84,6 @@ rows-fit (o ∷ os) maps h short =
     )
 
 -- a method has a head
-entries-length : (at : ℕ) (hs : List Head) (ops : List Op) → length (entries at hs ops) ≡ length hs
-entries-length at [] ops = refl
-entries-length at (h ∷ hs) ops = ap suc (entries-length (at + length (body ops)) hs (drop (length (body ops)) ops))
-
 pub heads-length : (t : Tree) → Accepted t → length (heads_of t.classes) ≡ length (lowered t).entries
 heads-length t a =
     let ops = (lowered t).ops in

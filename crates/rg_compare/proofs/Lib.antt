@@ -1,4 +1,3 @@
--- Lemmas on answers, on instructions and on modules; none is for crates above.
+-- Lemmas on instructions and on lists; none is for crates above.
 mod Answers
 mod Instructions
-mod Modules

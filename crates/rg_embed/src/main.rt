@@ -1,13 +1,16 @@
 //! A program of one's own that runs a program of the language (docs/embedding.md, "The top call"):
-//! its text stands here, its notes are taken into memory, and its pacers are those of another
-//! crate. Then it runs it once more, for some steps, and tells the objects that are held behind
-//! them.
+//! its text stands here, its output goes to a sink that counts lines, its notes are taken into
+//! memory, and its pacers are its own. Then it runs it once more, for some steps, and tells the
+//! objects that are held behind them. `tools/new` makes a crate like this one.
 #![tactic(auto)]
 
+mod headroom;
+mod lines;
 mod shown;
 
+use crate::headroom::Headroom;
+use crate::lines::Lines;
 use crate::shown::tell_objects;
-use rg_headroom::Headroom;
 use rg_io::{MemFiles, MemSink, MemSource, StdSink};
 use rg_run::Machine;
 use rg_top::reggio;
@@ -57,6 +60,7 @@ fn tell_run(rt: &HostRuntime) -> io::Result<()> {
     let Some((mut files, mut notes)) = in_memory(alloc) else {
         return println!(rt; "out of memory");
     };
+    let mut out = Lines::new(rt.stdout());
     let mut count = Headroom::new();
     let mut trace = Headroom::new();
     let status = reggio(
@@ -64,14 +68,14 @@ fn tell_run(rt: &HostRuntime) -> io::Result<()> {
         &["run", "a", "--report"],
         &mut files,
         &mut MemSource::new(alloc),
-        &mut StdSink::new(rt.stdout()),
+        &mut out,
         &mut notes,
         &mut count,
         &mut trace,
         &mut Machine::new(alloc),
     );
-    let number = status.number();
-    println!(rt; "status {number}")?;
+    let (number, lines) = (status.number(), out.lines());
+    println!(rt; "status {number}, lines {lines}")?;
     if let Ok(text) = str::from_utf8(notes.taken()) {
         print!(rt; "{text}")?;
     }

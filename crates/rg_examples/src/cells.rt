@@ -7,7 +7,7 @@ use std::alloc::Global;
 #[derive(Drop)]
 struct Repeated<'a> {
     before: &'a str,
-    count: u32,
+    count: u64,
     text: &'a str,
     behind: &'a str,
 }
@@ -25,9 +25,9 @@ fn first_repetition(cell: &str) -> Option<Repeated<'_>> {
     })
 }
 
-/// Appends a text, in which `~` is the end of a line, `#` a number, and `\0` to `\9` the bytes 0 to
-/// 9; None where no memory was found.
-fn append(alloc: Global, text: &str, number: u32, bytes: &mut Vec<u8>) -> Option<()> {
+/// Appends a text in which `~` is the end of a line, and `\0` to `\9` are the bytes 0 to 9; None
+/// where no memory was found.
+fn append_bytes(text: &str, bytes: &mut Vec<u8>) -> Option<()> {
     let mut counts = false;
     for byte in text.bytes() {
         match byte {
@@ -37,19 +37,43 @@ fn append(alloc: Global, text: &str, number: u32, bytes: &mut Vec<u8>) -> Option
             }
             b'\\' => counts = true,
             b'~' => bytes.push(b'\n').ok()?,
-            b'#' => {
-                let digits = format!(in alloc; "{number}").ok()?;
-                bytes.extend_from_slice(digits.as_bytes()).ok()?;
-            }
             other => bytes.push(other).ok()?,
         }
     }
     Some(())
 }
 
+/// What a `#` stands for at a number, and what stands behind it: `<A+B>` there makes it A times the
+/// number and B.
+fn counted(behind: &str, number: u64) -> Option<(u64, &str)> {
+    let Some(form) = behind.strip_prefix('<') else {
+        return Some((number, behind));
+    };
+    let (factor, rest) = form.split_once('+')?;
+    let (summand, rest) = rest.split_once('>')?;
+    let product = number.checked_mul(factor.parse().ok()?)?;
+    Some((product.checked_add(summand.parse().ok()?)?, rest))
+}
+
+/// Appends a text with its numbers; None where no memory was found.
+fn append(alloc: Global, text: &str, number: u64, bytes: &mut Vec<u8>) -> Option<()> {
+    let mut rest = text;
+    for _ in 0..text.len() {
+        let Some((before, behind)) = rest.split_once('#') else {
+            break;
+        };
+        append_bytes(before, bytes)?;
+        let (value, behind) = counted(behind, number)?;
+        let digits = format!(in alloc; "{value}").ok()?;
+        bytes.extend_from_slice(digits.as_bytes()).ok()?;
+        rest = behind;
+    }
+    append_bytes(rest, bytes)
+}
+
 /// What a cell stands for: `~` is the end of a line, `\0` to `\9` are the bytes 0 to 9, and
-/// `[N:TEXT]` is TEXT N times, where `#` is the number of the time, from 0. None where no memory
-/// was found.
+/// `[N:TEXT]` is TEXT N times, where `#` is the number of the time, from 0, and `#<A+B>` A times
+/// that number and B. None where no memory was found.
 pub fn expanded(alloc: Global, cell: &str) -> Option<Vec<u8>> {
     let mut bytes = Vec::new(alloc);
     let mut rest = cell;

@@ -15,7 +15,7 @@ mod shown;
 use crate::changes::judge_change;
 use crate::cuts::cut_anywhere;
 use crate::pacers::{by_a_list, never};
-use crate::programs::{KEPT, PLANNED, PROGRAMS, settles, writes};
+use crate::programs::{KEPT, PLANNED, PROGRAMS, REPORTED, reports, settles, writes};
 use crate::rows::{Verdict, judge};
 use crate::shown::shows;
 use rg_io::{StdFiles, take_all};
@@ -54,6 +54,19 @@ fn example(
     println!(rt; "fmt of the fmt of {program}: {settled}")
 }
 
+/// Says of a program whether its run reports the collections and numbers that are expected.
+fn reported(
+    rt: &(impl Files + Print + AllocGlobal),
+    program: &str,
+    every: &str,
+    input: Option<&str>,
+    report: &str,
+) -> io::Result<()> {
+    let words = ["run", program, "--report", "--every", every];
+    let run = told(reports(rt, &words, input, report));
+    println!(rt; "run {program} --report --every {every}: {run}")
+}
+
 /// Says of a program with a plan whether it runs as expected by a schedule.
 fn planned(
     rt: &(impl Files + Print + AllocGlobal),
@@ -78,6 +91,9 @@ fn kept(rt: &(impl Files + Print + AllocGlobal)) -> io::Result<()> {
 fn examples(rt: &(impl Files + Print + AllocGlobal)) -> io::Result<()> {
     for (program, input, output) in PROGRAMS {
         example(rt, program, input, output)?;
+    }
+    for (program, every, input, report) in REPORTED {
+        reported(rt, program, every, input, report)?;
     }
     for (program, plan, schedule, output) in PLANNED {
         planned(rt, program, plan, schedule, output)?;

@@ -13,7 +13,7 @@ const SOURCE_FAULT: u8 = 5;
 /// A row: `words | input | source | output | notes | status | failing`. The last cell may be left
 /// out. It has the calls of the files, the input, the output and the notes that fail (0: none), the
 /// steps that the machine has made then (`-`: any), and maybe the most bytes that one call of the
-/// output takes; such an input comes byte by byte.
+/// output takes, and of the input gives (0: all that it can).
 #[derive(Drop)]
 struct Row<'a> {
     words: &'a str,
@@ -53,17 +53,6 @@ fn cells(line: &str) -> Option<Row<'_>> {
         status: status.trim(),
         failing: failing.trim(),
     })
-}
-
-/// Whether notes are what a cell says. A line `..` of the cell stands for any lines. None where no
-/// memory was found.
-fn are_as(alloc: Global, cell: &str, notes: &[u8]) -> Option<bool> {
-    let Some((first, last)) = cell.split_once("..~") else {
-        return Some(notes == expanded(alloc, cell)?.as_slice());
-    };
-    let first = expanded(alloc, first)?;
-    let last = expanded(alloc, last)?;
-    Some(notes.starts_with(first.as_slice()) && notes.ends_with(last.as_slice()))
 }
 
 /// The words of a row; None where no memory was found.
@@ -115,13 +104,20 @@ fn ample(alloc: Global, row: &Row<'_>) -> Option<Handed> {
     Some(Handed { files, streams })
 }
 
+/// Sets the largest pieces of the output and the input.
+fn set_pieces(streams: &mut Streams, failing: &str) {
+    let taken = number_at(failing, 5);
+    if taken != 0 {
+        streams.out.piece(taken as usize);
+    }
+    let given = number_at(failing, 6);
+    if given != 0 {
+        streams.input.piece(given as usize);
+    }
+}
+
 /// Names the calls that fail; None where no memory was found.
 fn let_fail(handed: &mut Handed, failing: &str) -> Option<()> {
-    handed.streams.input.piece(1);
-    let most = number_at(failing, 5);
-    if most != 0 {
-        handed.streams.out.piece(most as usize);
-    }
     handed.files.fail_at(number_at(failing, 0)).ok()?;
     handed.streams.input.fail_at(number_at(failing, 1)).ok()?;
     handed.streams.out.fail_at(number_at(failing, 2)).ok()?;
@@ -130,9 +126,9 @@ fn let_fail(handed: &mut Handed, failing: &str) -> Option<()> {
 
 /// Whether a call has written what a row says; None where no memory was found.
 fn is_told(alloc: Global, row: &Row<'_>, streams: &Streams) -> Option<bool> {
-    let notes = are_as(alloc, row.notes, streams.notes.taken())?;
+    let notes = expanded(alloc, row.notes)?;
     let output = expanded(alloc, row.output)?;
-    Some(notes && streams.out.taken() == output.as_slice())
+    Some(streams.notes.taken() == notes.as_slice() && streams.out.taken() == output.as_slice())
 }
 
 /// Whether the machine has made the steps that a cell of failing calls says, and none, nor begun,
@@ -152,6 +148,7 @@ fn gives(alloc: Global, row: &Row<'_>) -> Option<bool> {
     let words = words_of(alloc, row.words)?;
     let mut handed = ample(alloc, row)?;
     if !row.failing.is_empty() {
+        set_pieces(&mut handed.streams, row.failing);
         let_fail(&mut handed, row.failing)?;
     }
     let mut machine = Machine::new(alloc);

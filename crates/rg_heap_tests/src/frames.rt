@@ -23,3 +23,19 @@ fn main_alone(rt: HostRuntime) {
     let mut frames = Frames::new(rt.alloc());
     assert!(rt; matches!(is_laid_out(&mut frames), Ok(true)));
 }
+
+// Of two temporaries the last is taken.
+fn takes_the_last(frames: &mut Frames) -> Result<bool, Memory>
+    requires { IsEmpty frames.old }
+{
+    frames.begin(5, 0)?;
+    frames.push_temp(7)?;
+    frames.push_temp(8)?;
+    Ok(frames.pop_temp() == Some(8) && frames.temps() == [7].as_slice())
+}
+
+#[test]
+fn temporaries_go_in_turn(rt: HostRuntime) {
+    let mut frames = Frames::new(rt.alloc());
+    assert!(rt; matches!(takes_the_last(&mut frames), Ok(true)));
+}

@@ -5,13 +5,17 @@ use Rattle.rg_base.specs.declared.object.Label.TheVariants.{Region, Frozen}
 use Rattle.rg_base.specs.declared.value.Val.TheVariants.{Nil, Int, Bool, Obj}
 use Rattle.rg_cown.specs.Cargo.{CargoList, SoundCargo}
 use Rattle.rg_spell.specs.Reading.{many_at, signed_at, manager_at}
-use Rattle.rg_image.specs.ImageText.{image_text}
+use Rattle.rg_image.specs.ImageText.{cell_bytes, image_text}
 use Rattle.rg_image.specs.Inner.Reading.{count_at, counted_at, int_at, value_behind, value_at, region_at, label_behind}
 use Rattle.rg_image.specs.Inner.Reading.{label_at, cell_at, cargo_at, held_at, content_behind, content_at, image_at}
 
 -- `RGI1`, and that nothing is there
 nothing : image_text None ≡ 82 ∷ 71 ∷ 73 ∷ 49 ∷ 0 ∷ []
 nothing = refl
+
+-- the least object: frozen, without fields
+least-length : length (cell_bytes (record { class = 0; label = Frozen; fields = [] })) ≡ 13
+least-length = refl
 
 -- an object of class 0 with a number, in a region of its own that is an arena
 abbrev one : CargoList

@@ -1,7 +1,7 @@
 //! A content that is read from bytes, part by part, each with the bytes behind it
 //! (docs/architecture.md, "Images"). No count takes memory for more than the bytes can hold.
 
-ghost use Rattle.std.specs.Prelude.{◌≡◌, ◌≤◌, [], ◌∷◌, IfOk, take};
+ghost use Rattle.std.specs.Prelude.{◌≡◌, ◌≤◌, ◌*◌, [], ◌∷◌, IfOk, take};
 ghost use Rattle.rg_spell.specs.Reading.{Finds, Gives, manager_at, many_at};
 ghost use Rattle.rg_image.specs.Inner.Reading.{count_at, counted_at};
 ghost use Rattle.rg_image.specs.Inner.Reading.{int_at, truth_at, object_at, value_behind, value_at};
@@ -431,7 +431,9 @@ fn take_managers(alloc: Global, bytes: &[u8]) -> Result<(Cargo, &[u8]), Refusal>
 
 // For how many objects room is made: for so many, and for none where these bytes are too few for
 // so many, which is found where they end.
-fn room_for(count: u64, bytes: usize) -> usize {
+fn room_for(count: u64, bytes: usize) -> usize
+    ensures { result * 13 ≤ bytes }
+{
     if count > (bytes / LEAST_CELL) as u64 {
         return 0;
     }

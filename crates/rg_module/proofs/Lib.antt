@@ -4,3 +4,4 @@ mod Filling
 mod Bodies
 mod SideBySide
 mod Examples
+pub mod Counts

@@ -157,9 +157,10 @@ impl Module {
         self.map_at(at)
     }
 
-    /// The number of instructions.
-    pub(crate) fn op_count(&self) -> usize
-        ensures { result ≡ length self.now.code.ops }
+    /// The number of instructions, each of which has a map.
+    pub fn op_count(&self) -> usize
+        ensures ops { result ≡ length self.now.code.ops }
+        ensures maps { result ≡ length self.now.maps }
     {
         self.code.len()
     }
@@ -173,7 +174,7 @@ impl Module {
     }
 
     /// The map of an instruction; that of one that is no mark is empty, or never read.
-    pub(crate) fn map_at(&self, at: usize) -> &[Ty]
+    pub fn map_at(&self, at: usize) -> &[Ty]
         requires there { at < length self.now.code.ops }
         ensures { slice_get self.now.maps at ≡ Some result.now }
     {

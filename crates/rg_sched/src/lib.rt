@@ -10,7 +10,7 @@ mod stop;
 pub use limits::SCHEDULE;
 pub use rg_plan::{Plan, plan};
 pub use rg_sched_atomic::Phase;
-pub use rg_world::World;
+pub use rg_world::{Content, World};
 pub use rg_world_text::world_text;
 pub use running::{Behind, run, run_counted};
 pub use stop::SchedStop;

@@ -69,7 +69,7 @@ pub fn run_counted<S: Source>(
         let Some(i) = next_behaviour(plan, schedule, source)? else {
             return Err(SchedStop::Bad { item: taken });
         };
-        world.event(alloc, accepted, code, plan, i, count, trace)?;
+        world = world.event(alloc, accepted, code, plan, i, count, trace)?;
     }
     Ok(Behind { world, taken })
 }

@@ -20,7 +20,7 @@ pub fn is_iso(ty: TypeRow) -> bool
 }
 
 /// The value with which a field of a type starts.
-pub fn opening_value(ty: TypeRow) -> Val
+pub(crate) fn opening_value(ty: TypeRow) -> Val
     ensures { (t : Tables) → result ≡ rules.opening_value (rows.type_of t ty) }
 {
     match ty {

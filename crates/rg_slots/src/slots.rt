@@ -4,9 +4,9 @@ ghost use Rattle.std.specs.Prelude.{◌≡◌, ◌<◌, All, IfOk, OnOk, Some, l
 ghost use Rattle.std.specs.Prelude.{unwrap_or};
 ghost use Rattle.rg_sched_atomic.specs.Contents.{Away as away, contents_at, put};
 ghost use Rattle.rg_sched_atomic.specs.Numbers.{Distinct};
-ghost use Rattle.rg_slots.specs.Slots.{content_in};
+ghost use Rattle.rg_slots.specs.Slots.{content_in, content_seen};
 
-use crate::slot::Slot;
+use crate::slot::{Content, Slot};
 use rg_base::Memory;
 use std::alloc::Global;
 use std::marker::Model;
@@ -37,11 +37,11 @@ impl Slots {
     }
 
     /// What the cown of a number has.
-    pub fn get(&self, n: u32) -> &Slot
+    pub fn get(&self, n: u32) -> Content<'_>
         requires { n < length self.now }
-        ensures { slice_get self.now n ≡ Some (content_in result.now) }
+        ensures { slice_get self.now n ≡ Some (content_seen result) }
     {
-        &self.slots[n as usize]
+        self.slots[n as usize].content()
     }
 
     /// Takes what these cowns have, in order; behind it their contents are away.

@@ -12,6 +12,8 @@ mod generated;
 #[cfg(test)]
 mod images;
 #[cfg(test)]
+mod judged;
+#[cfg(test)]
 mod lists;
 #[cfg(test)]
 mod modules;
@@ -19,6 +21,10 @@ mod modules;
 mod numbers;
 #[cfg(test)]
 mod pacers;
+#[cfg(test)]
+mod paths;
+#[cfg(test)]
+mod plain;
 #[cfg(test)]
 mod programs;
 #[cfg(test)]

@@ -3,7 +3,6 @@
 ghost use Rattle.std.specs.Prelude.{◌≡◌, IfOk};
 ghost use Rattle.rg_base.specs.declared.fault.Fault.{Fault};
 ghost use Rattle.rg_tree.specs.Rows.RowTrees.{program_of};
-ghost use Rattle.rg_module.specs.Spelling.{IsSpelt};
 ghost use Rattle.rg_compare.specs.Telling.{TellsSame};
 ghost use Rattle.rg_build.specs.ModuleOf.{module_of};
 ghost use Rattle.rg_limits.specs.Parts.{HasFewParts};
@@ -42,7 +41,6 @@ fn allowed(alloc: Global, program: Program) -> Result<Accepted, Refusal>
 
 // Whether a module is that of an accepted program.
 fn is_its_module(alloc: Global, accepted: &Accepted, module: &Module) -> Result<bool, Memory>
-    requires { IsSpelt «module».now }
     ensures { IfOk result (λ answer. TellsSame answer
         (module_of (program_of accepted.now.program)) «module».now) }
 {
@@ -53,7 +51,6 @@ fn is_its_module(alloc: Global, accepted: &Accepted, module: &Module) -> Result<
 
 // A program that raises a module, if any does.
 fn raised(alloc: Global, module: &Module) -> Result<Accepted, Refusal>
-    requires { IsSpelt «module».now }
     ensures { RaisesAs «module».now result }
 {
     told_raises_if_any();
@@ -70,11 +67,10 @@ fn raised(alloc: Global, module: &Module) -> Result<Accepted, Refusal>
     Ok(accepted)
 }
 
-/// A program that raises a module, which `decode` of `rg_module` gave; `E92` at line 0 where there
-/// is none. Nothing is searched for: the one program that the module tells is raised, and passes if
-/// it is within the limits and accepted, and its own module is this one.
+/// A program that raises a module; `E92` at line 0 where there is none. Nothing is searched for:
+/// the one program that the module tells is raised, and passes if it is within the limits and
+/// accepted, and its own module is this one.
 pub fn verify(alloc: Global, module: &Module) -> Result<Accepted, Stop>
-    requires { IsSpelt «module».now }
     ensures ok { IfOk result (λ a. Raises «module».now (program_of a.program)) }
     ensures fault { (f : Fault) → result ≡ Err (Stop.Fault f) → IsUnverified «module».now f }
 {

@@ -1,7 +1,6 @@
 -- The lemmas that the answers of rg_when use.
 mod Input
 mod Told
-mod Lengths
 mod Settled
 mod Counter
 mod Examples

@@ -1,5 +1,5 @@
--- What a world of a plan tells is what its behaviours come to one after another.
-use Rattle.std.proofs.Common.{◌≡◌, ◌∙◌, ℕ, List, Option, Some, None, slice_get, sym, ap}
+-- What a world of a plan tells is what its behaviours come to one after another, and of each cown something is told.
+use Rattle.std.proofs.Common.{◌≡◌, ◌<◌, ◌∙◌, ℕ, List, length, Option, Some, None, slice_get, sym, ap, subst}
 use Rattle.std.specs.Prelude.{slice_index_or}
 use Rattle.std.proofs.lemmas.Option.{get_or_from_slice_get}
 use Rattle.rg_tree.specs.Tree.{Tree}
@@ -14,6 +14,7 @@ use Rattle.rg_sched_atomic.specs.Laws.{OneByOne, PlansAreSettings}
 use Rattle.rg_sched.specs.Running.{IsCounted}
 use Rattle.rg_sched.specs.declared.running.Behind.{Behind}
 use Rattle.rg_sched.specs.Running.{WorldIn, IsBehind}
+use Rattle.rg_world.proofs.Events.{contents-length}
 use Rattle.rg_world_text.specs.Text.{world_text}
 use Rattle.rg_when.specs.Inner.Puts.{text_answer}
 use Rattle.rg_when.specs.Scheduled.{told_behind, text_behind, kept_of, answer_behind}
@@ -54,3 +55,10 @@ kept-answers settings one t code p images numbers b keep k content h some there 
     ap (λ (x : Content). kept_of x b.taken) (sym (content-alike settings one t code p images numbers b.world h.1 k content there))
     ∙ ap (kept_of (slice_index_or (told_behind t p images numbers).contents k Empty)) h.0
     ∙ ap (λ (o : Option ℕ). answer_behind t p images o numbers) (sym some)
+
+-- each cown of the plan has something
+pub content-there : (t : Tree) (code : Code) (p : PlanOf) (images : List CargoList) (numbers : List ℕ) (m : WorldIn) →
+    IsBehind t code p images numbers m → (k : ℕ) → k < length p.cowns → k < length m.contents
+content-there t code p images numbers m h k within =
+    let same = ap length h.shows.contents ∙ contents-length t.classes p images numbers h.plan.many in
+    subst (λ (n : ℕ). k < n) (sym same) within

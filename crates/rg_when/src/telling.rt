@@ -4,7 +4,7 @@ ghost use Rattle.std.specs.Prelude.{ℕ, List, length, ◌≡◌, ◌<◌, IfOk,
 ghost use Rattle.rg_tree.specs.Tree.{Tree};
 ghost use Rattle.rg_code.specs.Code.{Code};
 ghost use Rattle.rg_cown.specs.Cargo.{CargoList};
-ghost use Rattle.rg_slots.specs.Slots.{content_in};
+ghost use Rattle.rg_slots.specs.Slots.{content_seen};
 ghost use Rattle.rg_sched.specs.Running.{IsCounted};
 ghost use Rattle.rg_words.specs.Answers.{CausedByOutput};
 ghost use Rattle.rg_when.specs.Scheduled.{kept_of, answer_behind};
@@ -14,25 +14,24 @@ use rg_base::{ByteList, Memory};
 use rg_image::encode;
 use rg_io::{Sink, put_all};
 use rg_plan::Plan;
-use rg_sched::Behind;
+use rg_sched::{Behind, Content};
 use rg_sched_atomic::{every_schedule_is_one_by_one, plans_are_settings};
-use rg_slots::Slot;
 use rg_words::Status;
 use rg_world_text::world_text;
 use std::alloc::Global;
 
 // The image of what a cown has; None while a running behaviour has that.
-fn kept_text(alloc: Global, slot: &Slot) -> Result<Option<ByteList>, Memory>
+fn kept_text(alloc: Global, content: Content<'_>) -> Result<Option<ByteList>, Memory>
     ensures { (taken : ℕ) → IfOk result (λ text. text_answer text taken
-        ≡ kept_of (content_in slot.now) taken) }
+        ≡ kept_of (content_seen content.entry) taken) }
 {
-    match slot {
-        Slot::Away => Ok(None),
-        Slot::Empty => {
+    match content {
+        Content::Away => Ok(None),
+        Content::Empty => {
             let image = encode(alloc, None)?;
             Ok(Some(image))
         }
-        Slot::Held(cargo) => {
+        Content::Held(cargo) => {
             let image = encode(alloc, Some(cargo))?;
             Ok(Some(image))
         }

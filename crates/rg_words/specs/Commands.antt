@@ -8,8 +8,7 @@ use Rattle.rg_base.specs.Pieces.{is_digit}
 use Rattle.rg_base.specs.Tokens.{value_of}
 use Rattle.rg_make.specs.declared.whole.TheConstants.{MOST_SIZE}
 use Rattle.rg_words.specs.declared.words.Options.{Options}
-use Rattle.rg_words.specs.declared.words.TheConstants.{MOST_COWN, MOST_EVERY, USUAL_EVERY}
-use Rattle.rg_words.specs.declared.limits.TheConstants.{MOST_NUMBERS}
+use Rattle.rg_words.specs.declared.limits.TheConstants.{MOST_COWN, MOST_EVERY, MOST_NUMBERS, USUAL_EVERY}
 
 -- the words as texts
 abbrev pub texts : List (Bor (List ℕ)) → List (List ℕ)

@@ -5,7 +5,7 @@ use Rattle.rg_make.specs.declared.whole.TheConstants.{MOST_SIZE}
 use Rattle.rg_words.specs.declared.words.Request.{Request}
 use Rattle.rg_words.specs.declared.words.RunOptions.{RunOptions}
 use Rattle.rg_words.specs.declared.words.Options.{Options}
-use Rattle.rg_words.specs.declared.words.TheConstants.{USUAL_EVERY}
+use Rattle.rg_words.specs.declared.limits.TheConstants.{USUAL_EVERY}
 use Rattle.rg_words.specs.declared.words.Task.{Task}
 use Rattle.rg_words.specs.declared.words.Task.TheVariants as task
 use Rattle.rg_words.specs.declared.words.Request.TheVariants as request

@@ -8,6 +8,6 @@ mod limits;
 mod status;
 mod words;
 
-pub use limits::{MODULE_BYTES, MOST_NUMBERS};
+pub use limits::{MODULE_BYTES, MOST_COWN, MOST_EVERY, MOST_NUMBERS, USUAL_EVERY};
 pub use status::{Status, trap_words};
 pub use words::{Request, RunOptions, Task, command, shape};

@@ -14,17 +14,9 @@ ghost use Rattle.rg_words.specs.Commands.{on_file, sized};
 ghost use Rattle.rg_words.specs.Requests.{command_of, command_for, run_options, AsksWithin};
 ghost use Rattle.rg_words.specs.Requests.{TaskWithin};
 
+use crate::limits::{MOST_COWN, MOST_EVERY, USUAL_EVERY};
 use rg_base::{MOST_STEPS, USUAL_STEPS};
 use rg_make::MOST_SIZE;
-
-/// How often a pacer is asked before it says yes, where no option says so.
-pub(crate) const USUAL_EVERY: u64 = 1_000;
-
-/// The greatest number of `--keep`.
-pub(crate) const MOST_COWN: u64 = 9_999;
-
-/// The greatest number of `--every`.
-pub(crate) const MOST_EVERY: u64 = 1_000_000_000;
 
 /// How `run`, `slide` or `exec` runs a program: `slides` is whether what a collection keeps moves,
 /// which `exec` has false.

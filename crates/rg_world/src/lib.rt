@@ -13,4 +13,5 @@ mod progress;
 mod world;
 
 pub use progress::{Progress, Standing};
+pub use rg_slots::Content;
 pub use world::World;

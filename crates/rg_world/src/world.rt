@@ -7,7 +7,7 @@ ghost use Rattle.rg_code.specs.Code.{Code};
 ghost use Rattle.rg_code.specs.Lowering.{Lowers};
 ghost use Rattle.rg_cown.specs.Cargo.{CargoList};
 ghost use Rattle.rg_plan.specs.Plans.{Turn, in_front_of};
-ghost use Rattle.rg_slots.specs.Slots.{content_in};
+ghost use Rattle.rg_slots.specs.Slots.{content_seen};
 ghost use Rattle.rg_step.specs.Pacers.{SameTuned, both};
 ghost use Rattle.rg_world.specs.Standing.{phase_in, stepper_in};
 ghost use Rattle.rg_contents.specs.Read.{IsReadFor};
@@ -27,7 +27,7 @@ use rg_cown::Cargo;
 use rg_pace::Pacer;
 use rg_plan::{Plan, plans_are_good};
 use rg_sched_atomic::{Phase, contents_are_separate, fronts_are_enough, plans_are_settings};
-use rg_slots::{Slot, Slots};
+use rg_slots::{Content, Slots};
 use rg_step::Stepper;
 use std::alloc::Global;
 use std::marker::Model;
@@ -92,8 +92,34 @@ impl World {
 
     /// Makes the event of a number: a behaviour that hasn't begun begins where each lower-numbered
     /// one that shares a cown has ended, a running one makes a step, and one that has ended does
-    /// nothing. After a refusal the world is of no use any more.
+    /// nothing. On a refusal the world is gone.
     pub fn event(
+        self,
+        alloc: Global,
+        accepted: &Accepted,
+        code: &CodeList,
+        plan: &Plan,
+        i: u32,
+        count: &mut dyn Pacer,
+        trace: &mut dyn Pacer,
+    ) -> Result<World, Memory>
+        requires number { i < length plan.now.behaviours }
+        requires behind { (images : List CargoList) × (schedule : List ℕ)
+            × IsBehind (program_of accepted.now.program) code.now plan.now images schedule self }
+        ensures shows { (images : List CargoList) (schedule : List ℕ) →
+            IsBehind (program_of accepted.now.program) code.now plan.now images schedule self →
+            IfOk result (IsBehind (program_of accepted.now.program) code.now plan.now images
+            (schedule ++ i ∷ [])) }
+        ensures tuned { SameTuned (both (tally count.old) (tally trace.old))
+            (both (tally count.new) (tally trace.new)) }
+    {
+        let mut world = self;
+        world.make_event(alloc, accepted, code, plan, i, count, trace)?;
+        Ok(world)
+    }
+
+    // The event of a number, of which nothing is said where it is refused.
+    fn make_event(
         &mut self,
         alloc: Global,
         accepted: &Accepted,
@@ -285,9 +311,9 @@ impl World {
     }
 
     /// What a cown has.
-    pub fn content(&self, cown: u32) -> &Slot
+    pub fn content(&self, cown: u32) -> Content<'_>
         requires { cown < length self.now.contents }
-        ensures { slice_get self.now.contents cown ≡ Some (content_in result.now) }
+        ensures { slice_get self.now.contents cown ≡ Some (content_seen result) }
     {
         self.slots.get(cown)
     }

@@ -1,10 +1,12 @@
-use Rattle.std.proofs.Common.{◌∙◌, sym}
-use Rattle.rg_compare.proofs.Modules.{rest-told}
+use Rattle.std.proofs.Common.{◌<◌, ◌^◌, length, sym, subst}
+use Rattle.rg_code.specs.Code.{Code}
+use Rattle.rg_module.proofs.Counts.{few-openings, few-entries}
 use Rattle.rg_compare.proofs.whole.same.Goals as goal
 
-pub returns : goal.returns
-returns c =
-    let manager = sym c.manager.ensures ∙ c.if-not-same_manager.ensures ∙ c.manager-2.ensures in
-    let classes = sym c.classes.ensures ∙ c.if-not-same_shapes.ensures ∙ c.classes-2.ensures in
-    let methods = sym c.methods.ensures ∙ c.if-not-same_heads.ensures ∙ c.methods-2.ensures in
-    rest-told _ c.args.one.now c.args.other.now c.requires.one c.requires.other manager classes methods c.same_rows.ensures
+pub same_code-requires-clause-classes : goal.same_code-requires-clause-classes
+same_code-requires-clause-classes c =
+    subst (λ (d : Code). length d.openings < 2 ^ 32) (sym c.code.ensures) (few-openings c.args.one.now c.requires)
+
+pub same_code-requires-clause-methods : goal.same_code-requires-clause-methods
+same_code-requires-clause-methods c =
+    subst (λ (d : Code). length d.entries < 2 ^ 32) (sym c.code.ensures) (few-entries c.args.one.now c.requires)

@@ -17,13 +17,13 @@ returns-in_err-world-clause-run g c =
 pub returns-in_err-more-clause-run : goal.returns-in_err-more-clause-run
 returns-in_err-more-clause-run g c =
     let p = err_from_is_err_and c.from_residual-in_err-more.result c.from_residual-in_err-more.ensures.1 in
-    then-quiet c.args.schedule.now c.loop-world.schedule c.more.new.self (g.S.Source.left c.args.source.now) (g.S.Source.left c.loop-world.source)
-    (g.S.Source.left c.more.new.source) c.loop-world.taken c.loop-world.world (Looks c.more.result) c.from_residual-in_err-more.result p.0 p.1 (inr p.2)
-    c.loop-world.invariant.so_far c.more.ensures.looks
+    then-quiet c.args.schedule.now c.loop-taken.schedule c.more.new.self (g.S.Source.left c.args.source.now) (g.S.Source.left c.loop-taken.source)
+    (g.S.Source.left c.more.new.source) c.loop-taken.taken c.loop-taken.world (Looks c.more.result) c.from_residual-in_err-more.result p.0 p.1 (inr p.2)
+    c.loop-taken.invariant.so_far c.more.ensures.looks
 
 pub returns-then-taken-ge-SCHEDULE-clause-run : goal.returns-then-taken-ge-SCHEDULE-clause-run
 returns-then-taken-ge-SCHEDULE-clause-run g c =
-    let now = c.loop-world in
+    let now = c.loop-taken in
     let many : SCHEDULE ≤ now.taken = omega (arith, c.if-taken-ge-SCHEDULE.true) in
     let looks = subst (λ (b : Bool). OnInput now.schedule c.more.new.self (g.S.Source.left now.source) (g.S.Source.left c.more.new.source) (Looks (Ok b)))
     c.if-branch.true c.in_ok-more.ensures.looks in
@@ -32,7 +32,7 @@ returns-then-taken-ge-SCHEDULE-clause-run g c =
 
 pub returns-in_err-i-clause-run : goal.returns-in_err-i-clause-run
 returns-in_err-i-clause-run g c =
-    let now = c.loop-world in
+    let now = c.loop-taken in
     let p = err_from_is_err_and c.from_residual-in_err-i.result c.from_residual-in_err-i.ensures.1 in
     both-quiet c.args.schedule.now now.schedule c.more.new.self c.next_behaviour.new.schedule (g.S.Source.left c.args.source.now)
     (g.S.Source.left now.source) (g.S.Source.left c.more.new.source) (g.S.Source.left c.next_behaviour.new.source) now.taken now.world
@@ -41,7 +41,7 @@ returns-in_err-i-clause-run g c =
 
 pub returns-in_default-clause-run : goal.returns-in_default-clause-run
 returns-in_default-clause-run g c =
-    let now = c.loop-world in
+    let now = c.loop-taken in
     let less : now.taken < SCHEDULE = omega (arith, c.if-taken-ge-SCHEDULE.false) in
     let looks = subst (λ (b : Bool). OnInput now.schedule c.more.new.self (g.S.Source.left now.source) (g.S.Source.left c.more.new.source) (Looks (Ok b)))
     c.if-branch.true c.in_ok-more.ensures.looks in
@@ -51,26 +51,26 @@ returns-in_default-clause-run g c =
     (g.S.Source.left c.more.new.source) (g.S.Source.left c.next_behaviour.new.source) now.taken (now.taken + 1) now.world now.invariant.so_far less refl
     looks names
 
-pub returns-in_err-event-clause-run : goal.returns-in_err-event-clause-run
-returns-in_err-event-clause-run g c =
-    let now = c.loop-world in
-    let p = err_from_is_err_and c.from_residual-in_err-event.result c.from_residual-in_err-event.ensures.1 in
+pub returns-in_err-world-2-clause-run : goal.returns-in_err-world-2-clause-run
+returns-in_err-world-2-clause-run g c =
+    let now = c.loop-taken in
+    let p = err_from_is_err_and c.from_residual-in_err-world-2.result c.from_residual-in_err-world-2.ensures.1 in
     both-quiet c.args.schedule.now now.schedule c.more.new.self c.next_behaviour.new.schedule (g.S.Source.left c.args.source.now)
     (g.S.Source.left now.source) (g.S.Source.left c.more.new.source) (g.S.Source.left c.next_behaviour.new.source) now.taken now.world
-    (Looks c.more.result) (Names (length c.args.plan.now.behaviours) c.next_behaviour.result) c.from_residual-in_err-event.result p.0 p.1 (inl p.2)
+    (Looks c.more.result) (Names (length c.args.plan.now.behaviours) c.next_behaviour.result) c.from_residual-in_err-world-2.result p.0 p.1 (inl p.2)
     now.invariant.so_far c.more.ensures.looks c.next_behaviour.ensures.names
 
 pub returns-clause-run : goal.returns-clause-run
 returns-clause-run g c =
-    let now = c.loop-world in
+    let now = c.loop-taken in
     let looks = subst (λ (b : Bool). OnInput now.schedule c.more.new.self (g.S.Source.left now.source) (g.S.Source.left c.more.new.source) (Looks (Ok b)))
     c.if-branch.false c.in_ok-more.ensures.looks in
     ends c.args.schedule.now now.schedule c.more.new.self (g.S.Source.left c.args.source.now) (g.S.Source.left now.source)
     (g.S.Source.left c.more.new.source) now.taken now.world now.invariant.so_far looks
 
-pub loop-world-preserved : goal.loop-world-preserved
-loop-world-preserved g c =
-    let now = c.loop-world in
+pub loop-taken-preserved : goal.loop-taken-preserved
+loop-taken-preserved g c =
+    let now = c.loop-taken in
     let less : now.taken < SCHEDULE = omega (arith, c.if-taken-ge-SCHEDULE.false) in
     let looks = subst (λ (b : Bool). OnInput now.schedule c.more.new.self (g.S.Source.left now.source) (g.S.Source.left c.more.new.source) (Looks (Ok b)))
     c.if-branch.true c.in_ok-more.ensures.looks in
@@ -79,14 +79,14 @@ loop-world-preserved g c =
     record {
       so_far = goes_on c.args.schedule.now now.schedule c.more.new.self c.next_behaviour.new.schedule (g.S.Source.left c.args.source.now)
           (g.S.Source.left now.source) (g.S.Source.left c.more.new.source) (g.S.Source.left c.next_behaviour.new.source) now.taken (now.taken + 1)
-          c.in-Some.i now.world c.event.new.self now.invariant.so_far less refl looks names (c.in_ok-event.ensures.shows c.args.images.items);
+          c.in-Some.i now.world c.in_ok-world-2.world now.invariant.so_far less refl looks names (c.in_ok-world-2.ensures.shows c.args.images.items);
       follows = c.next_behaviour.ensures.follows;
       never_falls = omega (arith, now.invariant.never_falls, c.more.ensures.never_falls, c.next_behaviour.ensures.never_falls);
       tuned = (c.event.ensures.tuned.0 ∙ now.invariant.tuned.0, c.event.ensures.tuned.1 ∙ now.invariant.tuned.1);
     }
 
-pub loop-world-init : goal.loop-world-init
-loop-world-init g c = record {
+pub loop-taken-init : goal.loop-taken-init
+loop-taken-init g c = record {
   so_far = starts c.args.schedule.now c.args.schedule.now (g.S.Source.left c.args.source.now) (g.S.Source.left c.args.source.now)
       c.in_ok-world.world refl refl (c.in_ok-world.ensures c.args.code.now c.requires.lowers);
   follows = c.requires.follows;

@@ -6,8 +6,8 @@ use Rattle.rg_sched.specs.declared.limits.TheConstants.{SCHEDULE}
 use Rattle.rg_sched.proofs.Numbered.{SoFar}
 use Rattle.rg_sched.proofs.running.run_counted.Given as goal
 
-abbrev pub invariant-loop-world : goal.invariant-loop-world
-invariant-loop-world g l = record {
+abbrev pub invariant-loop-taken : goal.invariant-loop-taken
+invariant-loop-taken g l = record {
   so_far : SoFar (program_of l.accepted.program) l.code l.plan l.fn.images.items l.fn.schedule l.schedule (g.S.Source.left l.fn.source)
       (g.S.Source.left l.source) l.taken l.world;
   follows : Follows l.schedule (g.S.Source.left l.source);
@@ -17,5 +17,5 @@ invariant-loop-world g l = record {
       (both ((goal.Pacer-dyn g l.count.now).tally l.count.now.1) ((goal.Pacer-dyn g l.trace.now).tally l.trace.now.1));
 }
 
-abbrev pub decreases-loop-world : goal.decreases-loop-world
-decreases-loop-world g l = SCHEDULE - l.taken
+abbrev pub decreases-loop-taken : goal.decreases-loop-taken
+decreases-loop-taken g l = SCHEDULE - l.taken

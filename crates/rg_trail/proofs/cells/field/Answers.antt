@@ -1,0 +1,5 @@
+use Rattle.rg_trail.proofs.Cells.{is-held}
+use Rattle.rg_trail.proofs.cells.field.Goals as goal
+
+pub element-requires : goal.element-requires
+element-requires c = is-held _ _ _ c.in_ok-held.ensures.serial

@@ -1,3 +1,0 @@
--- What the loop of the steps says of a step (docs/embedding.md, "Step by step").
-pub mod Goes
-pub mod Leads
