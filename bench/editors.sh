@@ -20,8 +20,8 @@ try() { # NAME, a pattern of the last lines where all is well, COMMAND..
   timeout 600 "$@" >"$FOLDER/out" 2>"$FOLDER/err" </dev/null
   status=$?
   tr -d '\r' <"$FOLDER/out" >"$FOLDER/said"
-  if [ $status = 0 ] && grep -Eq -- "$good" "$FOLDER/said" && ! grep -q '^WRONG\|Traceback' "$FOLDER/said" "$FOLDER/err"; then
-    echo "ok    $name: $(grep -E -- "$good" "$FOLDER/said" | tail -n 1)"
+  if [ $status = 0 ] && grep -Eaq -- "$good" "$FOLDER/said" && ! grep -aq '^WRONG\|Traceback' "$FOLDER/said" "$FOLDER/err"; then
+    echo "ok    $name: $(grep -Ea -- "$good" "$FOLDER/said" | tail -n 1)"
   else
     wrong=$((wrong + 1))
     echo "WRONG $name, status $status"
@@ -34,7 +34,7 @@ has() { command -v "$1" >/dev/null || { echo "left out: $1 isn't there"; return 
 
 try protocol '^0 wrong' python3 "$trials/protocol.py" "$SERVER" "$REGGIO"
 try 'random edits' ' 0 wrong' python3 "$trials/random_edits.py" "$SERVER" "$REGGIO" "${examples[@]}"
-try damage ' 0 raised, 0 with the same' python3 "$trials/damage.py" "$here/tools" "$REGGIO" 400 1 "${examples[@]}"
+try damage ' 0 raised, 0 with the same' python3 "$trials/damage.py" "$here/tools" "$REGGIO" 150 1 "${examples[@]}"
 try comments ' 0 refused, 0 with comments in another order, 0 not stable, 0 bad' python3 "$trials/comments.py" "$here/tools" "$REGGIO" 300 "${examples[@]}"
 try types ' 0 not found, .* 0 wrong' python3 "$trials/seen_types.py" "$here/tools" "$REGGIO" "${examples[@]}"
 try plans ' of 0 nothing is said, 0 raised' python3 "$trials/plans.py" "$here/tools" "$REGGIO"

@@ -24,7 +24,7 @@ pages() {
   cat <<'PAGES'
 region examples/region.rg
 nested examples/nested.rg
-bank examples/bank.rg --input examples/bank.in
+archive docs/pages/archive.rg
 queue examples/queue.rg
 moving docs/pages/moving.rg --slide
 plan examples/accounts.rg docs/pages/three.plan

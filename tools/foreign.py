@@ -2,7 +2,7 @@
 written is only tried: whether it does, `reggio` says."""
 import re
 
-from loose import CAP_WORDS, CAPS, CLASSES, DECLARES, METHODS, NILS, VISIBLE, Node
+from loose import CAP_WORDS, CAPS, METHODS, NILS, VISIBLE, Node
 from outline import language
 
 NUMBERS = set("Int Integer Long i8 i16 i32 i64 i128 u8 u16 u32 u64 usize isize long short byte unsigned I64 I32 I128 U8 U32 U64 USize "
@@ -166,7 +166,7 @@ class Writer:
         if kind in ("compare", "is_nil", "within"):
             return "bool"
         if kind == "unary":
-            return "bool" if e.op == "not" else self.type_of(e.of) if e.op in ("&", "*") else "int"
+            return "bool" if e.op == "not" or e.op == "~" and self.type_of(e.of) == "bool" else self.type_of(e.of) if e.op in ("&", "*") else "int"
         if kind == "binary":
             return "bool" if e.op in ("and", "or", "xor") else "int"
         if kind in ("paren", "wrap", "cast"):
@@ -317,6 +317,8 @@ class Writer:
                 self.note(e.start, "The least number isn't written as one.")
                 return "-9223372036854775807 - 1", 5
             return "-" + self.value(e.of, 8), 7
+        if e.op == "~" and self.type_of(e.of) == "bool":
+            return self.negated(e.of)
         raise Cannot(e.start, "There are no operators on bits." if e.op == "~" else "")
 
     def negated(self, e):
@@ -335,6 +337,8 @@ class Writer:
 
     def value_binary(self, e):
         op = e.op
+        if op in ("&", "|") and "bool" in (self.type_of(e.left), self.type_of(e.right)):
+            op = {"&": "and", "|": "or"}[op]
         if op in ("or", "and"):
             if self.code[e.place] in "|&":
                 self.note(e.place, "For `&&` and `||` there are `and` and `or`.")
@@ -430,6 +434,8 @@ class Writer:
                 self.pre.append(f"let {taken}: {type or self.choose(self.all_types())} = nil; swap {taken}, {of};")
                 of = taken
             return f"{e.verb} {of}", ""
+        if kind == "binary" and e.op == "*" and e.left.kind == "list":      # [0] * 4
+            return self.row(Node("list", e.start, args=[(None, e.right)], sign="new"), name)
         if kind == "choice" and name:
             self.note(e.test.start, "A value isn't chosen inside of an expression: an `if` is a statement.")
             no = self.value(e.no) if e.no else START.get(self.type_of(e), "nil")
@@ -497,7 +503,7 @@ class Writer:
             return self.made(Node("new", e.start, type=[home], args=e.args, size=None, manager=None), name)
         if getattr(e, "macro", False):
             if word == "vec":
-                return self.row(Node("list", e.start, args=e.args, sign="["), name)
+                return self.row(Node("list", e.start, args=e.args[e.is_repeated:], sign="new" if e.is_repeated else "["), name)
             raise Cannot(e.start, TEXT if word == "format" else "")
         if of.kind == "name" and word not in self.env:
             one = args[0] if len(args) == 1 else None
@@ -683,7 +689,7 @@ class Writer:
             return self.put(node, f"{of} = {of} {e.op[0]} 1;")
         if e.kind == "text":
             return self.replace(node.start, node.end, "// " + joined(e.said.strip("\"'`").split()) + self.line_break(node.start))
-        if self.result and self.result.get("last") is node or self.method is not None and self.method.result and self.is_last(node):
+        if self.method is not None and self.method.result and self.is_last(node):
             self.note(node.start, "What a method gives is returned by `return ..;`, in the last place of its body.")
             return self.on_return(Node("return", node.start, of=e, end=node.end))
         if e.kind in ("call", "wrap", "paren"):
@@ -964,7 +970,7 @@ class Writer:
             args = [it for _, it in row.args]
             low, high, by = ("0", self.value(args[0], 5), "1") if len(args) == 1 else (self.value(args[0]), self.value(args[1], 5), self.value(args[2]) if len(args) > 2 else "1")
             row, sign = None, ">" if by.startswith("-") else "<"
-        elif row.kind == "range":
+        elif row.kind == "range" and row.high is not None:
             low, high, by, sign = self.value(row.low), self.value(row.high, 5), "1", row.op
             row = None
         if row is None:
@@ -1126,7 +1132,7 @@ class Writer:
 
     def on_class(self, node):
         before, self.home = self.home, node
-        if node.element:
+        if node.element is not None or node.opens is None:
             return
         other = self.classes.get(node.name)
         if node.word == "impl" and other is not None and other is not node and other.shuts is not None:
@@ -1152,7 +1158,7 @@ class Writer:
         if node.form != "brace":
             self.note(node.opens[0], "A block stands in braces: `{ .. }`.")
             last = node.some[-1].end if node.some else node.opens[1]
-            self.replace(*node.opens, "{") if self.code[node.opens[0]] == ":" else self.insert(node.opens[0], "{ ")
+            self.replace(*node.opens, "{") if self.code[node.opens[0]:node.opens[1]] == ":" else self.insert(node.opens[0], "{ ")
             self.insert(last, "\n}")
         if node.semi:
             self.note(node.end, "Behind a class stands no `;`.")
@@ -1174,7 +1180,9 @@ class Writer:
     def on_top(self, node):
         """What stands outside of classes: a function, a variable, a statement."""
         main = next((it for it in self.tree.some if it.kind == "main"), None)
-        if node.kind == "method" and node.name == "main" or node.kind == "method" and node.name in ("Main",):
+        if self.code[node.start:node.start + 1] in "}])":
+            raise Cannot(node.start, "")
+        if node.kind == "method" and node.name == "main" and node.body is not None:
             self.note(node.start, "The program's statements stand in `main arena { .. }`, which is its last part.")
             return self.on_main(Node("main", node.start, head=node.head, manager=None, body=node.body, result=[]))
         if node.kind == "method":

@@ -204,7 +204,7 @@ class Reader:
     def arguments(self, closer):
         """The expressions up to a closing bracket, each with its name where it has one."""
         some, plain = [], self.plain
-        self.plain = 0
+        self.plain, self.is_repeated = 0, False
         while not self.at(closer) and self.tok().kind != "end":
             name, k = None, self.k
             if self.tok().kind in ("name", "string") and self.tok(1).text in (":", "=") or self.at(".") and self.tok(1).kind == "name" and self.tok(2).text == "=":
@@ -214,7 +214,9 @@ class Reader:
             some.append((name, self.expr()))
             while not self.at(closer, ",", ";") and self.tok().kind != "end" and self.k > k and not self.at("}", "{"):
                 some[-1] = (name, Node("raw", self.tok().start, why=self.take().text))
-            if not self.take(",", ";") and not self.at(closer):
+            parted = self.take(",", ";")
+            self.is_repeated = parted.text == ";" if parted else self.is_repeated
+            if not parted and not self.at(closer):
                 break
         self.take(closer)
         self.plain = plain
@@ -243,6 +245,7 @@ class Reader:
                     continue
                 opens = self.take().text
                 left = Node("call", left.start, of=left, args=self.arguments({"(": ")", "[": "]", "{": "}"}[opens]), macro=True)
+                left.is_repeated = self.is_repeated
             elif op == "!!":
                 self.take()
             elif op in ("++", "--"):
@@ -291,6 +294,8 @@ class Reader:
         if word in ("[", "{") and not (word == "{" and self.plain):
             self.take()
             args = self.arguments("]" if word == "[" else "}")
+            if self.is_repeated and len(args) == 2:      # [0; 4]
+                return self.done(Node("list", it.start, args=args[1:], sign="new"))
             return self.done(Node("list", it.start, args=args, sign=word))
         if word in ("|", "||", "lambda", "fn", "func", "function"):
             return self.function(it.start)
@@ -314,13 +319,18 @@ class Reader:
                 self.take()
             return self.done(Node("word", it.start, said=word))
         if word in ("match", "switch", "if", "when") and not self.plain:
-            return self.statement()
+            node = self.statement()
+            some = [node.yes, node.no] if node.kind == "if" and node.no is not None and node.no.kind == "block" else []
+            if some and all(len(one.some) == 1 and one.some[0].kind == "alone" for one in some):
+                return self.done(Node("choice", it.start, test=node.test, yes=some[0].some[0].of, no=some[1].some[0].of))
+            return node
         if it.kind == "name":
             self.take()
             if self.at("=>") and not self.plain:
                 return self.function(it.start)
             return self.done(Node("name", it.start, name=word))
-        self.take()
+        if not self.at(";", "}", ")", "]", ","):
+            self.take()
         return self.done(Node("raw", it.start, why=word))
 
     def function(self, start):
@@ -492,6 +502,8 @@ class Reader:
                             break
                 else:
                     words.append(self.take().text)
+                    if words[-1] == "::" and self.tok().kind == "name":
+                        words.append(self.take().text)
             if self.is_name() and not self.tok().is_fresh and (self.tok(1).text in ("=", ";", ",") or self.tok(1).is_fresh):
                 names = [self.take().text]
                 while self.at(",") and self.tok(1).kind == "name" and self.tok(2).text in (",", ";", "="):
@@ -504,7 +516,6 @@ class Reader:
     def simple(self, start):
         """An assignment, a call, or another expression that stands alone."""
         left, k = self.expr(), self.k
-        it = self.tok()
         if self.at("=", "+=", "-=", "*=", "/=", "%=", "**=", "//=", "<<=", ">>=") or self.at(","):
             lefts, rights = [left], []
             while self.take(","):
@@ -661,7 +672,7 @@ class Reader:
     def read_print(self, start, indent):
         word = self.take()
         node = Node("print", start, args=[], word=word.text)
-        if word.text == "print" and not self.at("("):
+        if word.text == "print" and not self.at("(", ";", "}"):
             node.args.append((None, self.expr()))
             while self.take(","):
                 node.args.append((None, self.expr()))
@@ -677,7 +688,7 @@ class Reader:
             node.args, node.paren = self.arguments(")"), True
             return self.ended(node)
         if word.text == "print":
-            node.args.append((None, self.expr()))
+            node.args += [(None, self.expr())] if self.at("(") else []
             return self.ended(node)
         return None
 
@@ -761,7 +772,7 @@ class Reader:
             if "self" in some or "this" in some:
                 node.own = some
             elif some:
-                some = some[:some.index("=")] if "=" in some else some
+                some = some[:some.index("=") or 1] if "=" in some else some
                 name, type = (some[some.index(":") - 1], some[some.index(":") + 1:]) if ":" in some else (some[-1], some[:-1])
                 node.params.append((name, type))
         self.take(")")
@@ -802,7 +813,7 @@ class Reader:
                 self.k = self.closed(self.k)
             head = self.tok().start
             return self.done(Node("main", start, head=head, manager=manager, body=self.block(indent), result=[]))
-        n, first = 0, self.k
+        n = 0
         while self.tok(n).text in VISIBLE or self.tok(n).text == "tmp":
             n += 1
         if self.tok(n).text in CLASSES and self.tok(n + 1).kind == "name" or word == "class":
@@ -812,7 +823,7 @@ class Reader:
             while self.tok(1).kind == "name" and not self.tok(1).is_fresh and self.tok(1).text not in ("extends", "implements", "is", "for", "where"):
                 self.take()
             name = self.take().text
-            node = Node("class", start, word=word, name=name, is_tmp=is_tmp, some=[], element=None, head=self.tok().start, form="brace", opens=None, shuts=None)
+            node = Node("class", start, word=word, name=name, is_tmp=is_tmp, some=[], element=None, head=self.tok().start, form="brace", opens=None, shuts=None, base="")
             if self.at("["):
                 self.take()
                 node.element = self.words_until("]", ";", "}")

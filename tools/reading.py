@@ -4,7 +4,6 @@ prints it, and by tools/server, which tells editors.
 
 Nothing of the grammar and of the rules is written down here but how a source is cut into tokens: what could stand at a place
 is found by asking `reggio` about sources that differ there."""
-import functools
 import os
 import re
 import subprocess
@@ -14,7 +13,7 @@ from outline import Source, document, language, text, top
 
 launcher = os.environ.get("REGGIO") or f"{top}/reggio"
 MOST = 1 << 20       # bytes of a source
-LARGE = 1 << 16      # bytes of a source behind which the other bodies are emptied before more is asked
+LARGE = 1 << 18      # bytes of a source of which more than the place of a fault is asked
 KEPT = 4096          # bytes of a source whose answer is kept, and how many
 TURN = 0.02          # seconds after which `between` has a turn while `reggio` works
 SPELT = {"a name": "probe__", "a number": "1"}
@@ -187,8 +186,8 @@ def signs_tried(source, at):
     out."""
     start, end = source.tokens[at] if at < len(source.tokens) else (len(source.code), len(source.code))
     behind = source.tokens[at - 1][1] if at else 0
-    for one in CLOSERS:
-        yield behind, behind, (b"" if one in CLOSERS[:2] else b" ") + one.encode()
+    for one in [*CLOSERS, "()"]:
+        yield behind, behind, (b"" if one in (";", ")", "()") else b" ") + one.encode()
     for one in CLOSERS:
         yield start, end, one.encode()
     yield start, end, b""
@@ -211,7 +210,7 @@ def find_syntax(reggio, source, found):
             it = source.token(at)
             found.span = source.tokens[at]
             found.said.append(f"Here stands {f'`{text(it)[:70]}`' if it.isascii() and text(it).isprintable() else f'the byte {it[0]}'}.")
-            if reggio.at is not None:
+            if reggio.at is not None and len(source.code) <= LARGE:
                 reasons.of_syntax(reggio, source, found, at)
         return
     at = place_of_syntax(reggio, source, code, line)
@@ -221,7 +220,7 @@ def find_syntax(reggio, source, found):
     elif source.tokens and source.line_of(len(source.code)) == line and source.span_of(line)[0] < len(source.code):
         found.span = (source.tokens[-1][1],) * 2
     there = "The source ends here" if ends else f"Here stands `{text(source.token(at))[:70]}`"
-    if code == "E10" and reggio.at is not None:
+    if code == "E10" and len(source.code) <= LARGE:
         reasons.of_syntax(reggio, source, found, at)
         if not found.cures:
             can = could_stand(reggio, source.code[:source.tokens[at - 1][1]] if at else b"", [*SPELT, *language().words, *language().signs]) or []
@@ -267,7 +266,11 @@ def find(reggio, source, found):
             find_syntax(reggio, source, found)
         elif reggio.at is not None:
             first = statement_at(reggio, source, found.line)
-            if first is not None:
+            if first is not None and len(source.code) <= LARGE:
                 reasons.of_rule(reggio, source, found, first)
+            elif first is not None:
+                found.span = source.tokens[first]
     except Enough:
         found.is_whole = False
+    if len(source.code) > LARGE:
+        found.said.append(f"(Of a source of more than {LARGE:,} bytes no more than this is told.)")

@@ -391,7 +391,7 @@ def of_syntax(reggio, source, found, at):
     is_behind = "\n" in case.code[prior:here] or case.code[here] == "}"
     found.reasons, found.cures = case.written(*((prior, here) if is_behind else (here, prior)))
     found.reasons = found.reasons[:2]
-    for start, end, put in reading.signs_tried(source, at) if not found.cures else ():
+    for start, end, put in reading.signs_tried(source, at) if not found.cures + found.reasons else ():
         put = put.decode()
         if case.is_taken(start, end, put, here, here) == 1:
             it, then = case.code[start:end][:40], case.code[here:source.tokens[at][1]][:40]
@@ -1046,6 +1046,8 @@ def of_iso_field(case):
                     if it is not None and it.kind == "variable" and it.node.right is not None and it.node.right.kind == "new":
                         edits += [[*some, case.whole(f"swap {right.name}, {field};")] for some in made_as_iso(case, it)]
                 return said, edits
+            if right.kind == "path" and (case.names.member(case.type(right.of), right.name)[1] or "").startswith("iso "):
+                return said, [case.whole(f"let {g}: {type} = nil; swap {g}, {case.src(right)}; swap {g}, {field};")]
             made = case.src(right)
             made = f"new {type} in arena" if right.kind == "new" and not re.match(r"new\s+iso\b", made) else made
             return said, [case.whole(f"let {g}: {type} = {made}; swap {g}, {field};")]
@@ -1097,7 +1099,7 @@ def of_duplicate(case):
         stop = node.end if node.kind == "enter" else outer.end if outer is not None else node.end
         renamed = re.sub(rf"(?<![\w.]){name}\b", new, case.code[node.start:stop])
         if node.kind == "let" and node.right is not None:
-            cut = node.right.start - node.start     # (its value is that of the other one)
+            # (its value is that of the other one)
             renamed = re.sub(rf"(?<![\w.]){name}\b", new, case.code[node.start:node.right.start]) + case.src(node.right) + re.sub(rf"(?<![\w.]){name}\b", new, case.code[node.right.end:stop])
         return said, [(node.start, stop, renamed), *edits]
     if node.kind == "method" and len(dict(node.params)) < len(node.params):

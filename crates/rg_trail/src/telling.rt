@@ -7,7 +7,7 @@ ghost use Rattle.rg_step.specs.Stepping.{IsFresh};
 
 use crate::json::manager;
 use crate::outcome::goes_on;
-use crate::trail::{Trail, Wanted, before};
+use crate::trail::{Trail, Wanted, in_front};
 use rg_base::{ByteList, Memory};
 use rg_check::Accepted;
 use rg_code::{CodeList, listing};
@@ -101,7 +101,7 @@ pub fn tell_run<S: Source>(
             return println!(rt; "out of memory");
         };
         print(rt, &text)?;
-        let front = before(&stepper, code);
+        let front = in_front(&stepper, code);
         let outcome = stepper.step(code, input, source, &mut count, &mut trace);
         let Ok(text) = trail.step(alloc, &stepper, code, front, outcome) else {
             return println!(rt; "out of memory");

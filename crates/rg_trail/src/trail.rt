@@ -113,7 +113,7 @@ fn begin_line(out: &mut ByteList, n: EndNumbers, line: u64) -> Result<(), Memory
 }
 
 /// What stands in front of the next step.
-pub fn before(stepper: &Stepper, code: &CodeList) -> Before {
+pub fn in_front(stepper: &Stepper, code: &CodeList) -> Before {
     let at = stepper.at();
     Before {
         at,
