@@ -179,7 +179,7 @@ expect 'server: no message' 1 '' '' "$server </dev/null"
 expect 'server: half a message' 1 '' '' "printf 'Content-Length: 100\r\n\r\n{\"jsonrpc\"' | $server"
 expect 'server: noise' 1 '' '' "$server <noise.rg"
 for tool in explain\ --trap\ endless.rg compare\ endless.rg server draw; do
-  expect "$tool: Ctrl-C" 130 '*' "*${tool%% *}: stopped" "mkfifo -m 600 held 2>/dev/null; exec 9<>held; python3 -c 'import os, signal, sys; signal.signal(signal.SIGINT, signal.default_int_handler); os.execv(sys.argv[1], sys.argv[1:])' $here/tools/$tool <&9 & sleep 8; kill -INT \$!; wait \$!"
+  expect "$tool: Ctrl-C" 130 '*' "*${tool%% *}: stopped" "mkfifo -m 600 held 2>/dev/null; exec 9<>held; python3 -c 'import os, signal, sys; signal.signal(signal.SIGINT, signal.default_int_handler); os.execv(sys.argv[1], sys.argv[1:])' $here/tools/$tool <&9 & sleep 2; kill -INT \$!; wait \$!"
 done
 
 heap=$here/tools/heap
