@@ -94,7 +94,10 @@ impl Shadow {
         };
         let frame = self.rows.len().saturating_sub(1);
         for slot in 0..frames.size() {
-            let v = shown(heap, frames.word(slot as u32));
+            let Ok(short) = u32::try_from(slot) else {
+                return Ok(());
+            };
+            let v = shown(heap, frames.word(short));
             self.set(frame, frames.first(), slot, v, told)?;
         }
         Ok(())
