@@ -221,7 +221,7 @@ expect 'explore: more than 1 MiB' 9 '' 'explore: long.rg: source too long' "$exp
 expect 'explore: noise' 1 '' 'explore: noise.rg: E01 byte at line *' "$explore noise.rg"
 expect 'explore: a page' 0 'wrote seven.html, for a browser' '' "$explore seven.rg"
 expect 'explore: the page again' 0 'wrote seven.html, for a browser' '' "$explore seven.rg"
-expect 'explore: another file of its name' 1 '' 'explore: seven.html is there, and is no page of this tool*' "echo >seven.html; $explore seven.rg"
+expect 'explore: another file of its name' 1 '' 'explore: seven.html is there, and is no page of this tool*' "echo >seven.html; $explore seven.rg; s=\$?; rm seven.html; exit \$s"
 expect 'explore: standard output' 0 '<!doctype html>*</html>' '' "$explore seven.rg -o -"
 expect 'explore: a page that cannot be written' 1 '' 'explore: folder: Is a directory' "$explore seven.rg -o folder"
 expect 'explore: a page without a folder' 1 '' 'explore: nowhere/a.html: No such file or directory' "$explore seven.rg -o nowhere/a.html"
