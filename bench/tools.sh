@@ -178,9 +178,6 @@ expect 'server: words' 2 '' 'usage: tools/server*' "$server what"
 expect 'server: no message' 1 '' '' "$server </dev/null"
 expect 'server: half a message' 1 '' '' "printf 'Content-Length: 100\r\n\r\n{\"jsonrpc\"' | $server"
 expect 'server: noise' 1 '' '' "$server <noise.rg"
-for tool in explain\ --trap\ endless.rg compare\ endless.rg server draw; do
-  expect "$tool: Ctrl-C" 130 '*' "*${tool%% *}: stopped" "mkfifo -m 600 held 2>/dev/null; exec 9<>held; python3 -c 'import os, signal, sys; signal.signal(signal.SIGINT, signal.default_int_handler); os.execv(sys.argv[1], sys.argv[1:])' $here/tools/$tool <&9 & sleep 2; kill -INT \$!; wait \$!"
-done
 
 heap=$here/tools/heap
 REGGIO_TRAIL=$(readlink -f "${REGGIO_TRAIL:-$("$here/tools/unproved" --where rg_trail)}")
@@ -283,6 +280,8 @@ expect 'new: the same once more' 1 '' 'new: host is there already' "$new host"
 
 # Ctrl-C ends a tool with one line, and no traceback.
 stopped() { echo "timeout --preserve-status -s INT 5 $*"; } # (by then it has begun, also at a load)
+expect 'explain: stopped' 130 '' 'explain: stopped' "$(stopped "$explain" --trap endless.rg --steps 1000000000 '</dev/null')"
+expect 'server: stopped' 130 '' 'server: stopped' "tail -f /dev/null --pid \$\$ | $(stopped "$server")"
 expect 'compare: stopped' 130 '*' 'compare: stopped' "$(stopped "$compare" endless.rg)"
 expect 'draw: stopped' 130 '' 'draw: stopped' "tail -f /dev/null --pid \$\$ | $(stopped "$draw")"
 expect 'schedule: stopped' 130 '*' 'schedule: stopped' "$(stopped "$schedule" add.rg add.plan --many 10000)"

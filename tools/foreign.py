@@ -3,7 +3,7 @@ written is only tried: whether it does, `reggio` says."""
 import re
 
 from loose import CAP_WORDS, CAPS, METHODS, NILS, VISIBLE, Node
-from outline import language
+from outline import language, table
 
 NUMBERS = set("Int Integer Long i8 i16 i32 i64 i128 u8 u16 u32 u64 usize isize long short byte unsigned I64 I32 I128 U8 U32 U64 USize "
               "ISize number Number num uint int64 int32 uint64 size_t float double f32 f64 F32 F64 Float Double int".split())
@@ -15,37 +15,7 @@ START = {"int": "0", "bool": "false"}
 LEVELS = {"or": 1, "and": 2, "+": 5, "-": 5, "*": 6, "/": 6, "%": 6}
 LENGTHS = set("len length size count Length Count len_ sizeof".split())
 PLAIN = set("unwrap clone copy borrow borrow_mut as_ref as_mut get_mut expect to_owned into deref apply unwrap_or_default".split())
-ABOUT = {  # what there is in place of what a word does elsewhere
-    "break": "There is no `break`: a loop ends where its test is false. Keep a `bool`: `let go: bool = true; while go { .. go = false; .. }`.",
-    "continue": "There is no `continue`: the rest of the loop's body stands in an `if`.",
-    "loop": "A loop without an end is `while true { .. }`.", "forever": "A loop without an end is `while true { .. }`.",
-    "do": "There is `while` alone, whose test comes first.", "repeat": "There is `while` alone: `while not .. { .. }`.",
-    "until": "There is `while` alone: `while not .. { .. }`.", "unless": "There is no `unless`: `if not (..) { .. }`.",
-    "for": "There is no `for`: `let i: int = 0; while i < n { .. i = i + 1; }`.",
-    "foreach": "There is no `foreach`: `let i: int = 0; while i < size row { .. row[i] .. i = i + 1; }`.",
-    **dict.fromkeys(("switch", "match", "case", "when"), "There is no `switch` and no `match`: write `if .. { .. } else { if .. { .. } }`."),
-    **dict.fromkeys(("elif", "elseif", "elsif", "elsf"), "There is no `else if` in one: an `if` stands in the `else`, `else { if .. { .. } }`."),
-    **dict.fromkeys(("try", "catch", "except", "finally"), "There are no exceptions: ask first, by `if`. A trap stops the program."),
-    **dict.fromkeys(("throw", "raise", "error"), "There are no exceptions: give back a number that says so."),
-    "assert": "There is no `assert`: `if not .. { print 0; }`.", "goto": "There is no `goto`.",
-    "yield": "There are no generators: a method gives one result, at its end.", "pass": "An empty block is `{ }`.",
-    **dict.fromkeys(("del", "delete", "free", "drop"), "Nothing is freed by hand: `x = nil;` lets go of an object, and a region goes with its owner."),
-    **dict.fromkeys(("import", "use", "include", "from", "package", "using", "mod", "namespace", "module"),
-                    "A program is one file, with its classes in front of `main`: there are no imports and no modules."),
-    "enum": "There are no enums: numbers stand for the cases, in an `int`.",
-    "union": "There are no unions: a class has a field for each case, and an `int` that says which.",
-    **dict.fromkeys(("trait", "interface", "protocol"), "There are no traits and no interfaces: a method is one of a class."),
-    "impl": "There is no `impl`: the methods of a class stand in its braces, between or behind its fields.",
-    "struct": "What has fields is a `class`.", "type": "There are no names for types: a class has one.",
-    "actor": "There are no actors: a class with `def mut` methods is one of a plan's behaviours, and its `iso` fields are its cowns.",
-    "be": "Behaviours stand in a plan, outside of the program: each is a `def mut` method without parameters and result.",
-    "await": "Nothing runs beside the program: `call` waits for its end.", "async": "Nothing runs beside the program.",
-    "consume": "A use of an `iso` variable moves it: no word stands in front.", "move": "A use of an `iso` variable moves it: no word stands in front.",
-    "recover": "A region of its own is made by `new iso C in arena`, and is filled in `enter .. as .. { }`.",
-    **dict.fromkeys(("clone", "copy"), "Nothing copies an object: make a new one, and write its fields."),
-    "instanceof": "An object is of its class: there is no test.", "guard": "There is no `guard`: `if .. is nil { .. } else { .. }`.",
-    "defer": "Nothing runs when a block ends: write it in its last place.",
-}
+ABOUT = {word: said for words, said in table("Words of other languages", "diagnostics.md")[1:] for word in re.findall(r"`(\w+)`", words)}
 TEXT = "There is no text and there are no characters: numbers, truth values and references are all values."
 FUNCTION = "There are no functions as values: a method of a class is called, by `call object.method(..)`."
 NO_ROW = "There are no generics: an array has a class of its own, as `class {0} [{1}];` in front of the other classes; a reference to one is `mut {0}`, and `new {0} [3]` makes it. It keeps its size: what grows is a list of objects, each with a field to the next one."

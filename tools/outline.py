@@ -52,9 +52,9 @@ class Source:
         return range(bisect.bisect_left(self.tokens, (start, 0)), bisect.bisect_left(self.tokens, (end, 0)))
 
 
-def table(heading):
-    """The cells of the first table under a heading of docs/language.md."""
-    part = re.search(rf"^#+ {re.escape(heading)}$(.*?)(?=^#|\Z)", document("language.md"), re.M | re.S)[1]
+def table(heading, page="language.md"):
+    """The cells of the first table under a heading of a page of docs/."""
+    part = re.search(rf"^#+ {re.escape(heading)}$(.*?)(?=^#|\Z)", document(page), re.M | re.S)[1]
     rows = re.search(r"(?:^\|.*\n)+", part, re.M)[0].splitlines()
     return [[it.strip() for it in re.split(r"(?<!\\)\|", row)[1:-1]] for row in rows if not row.startswith("|--")]
 

@@ -244,13 +244,14 @@ def find_syntax(reggio, source, found):
 def statement_at(reggio, source, line):
     """The first token of the statement or the member at fault: where several begin on the line, each gets a line of its own,
     and the fault's line says which."""
-    some = [k for k in source.on(line) if k == source.on(line)[0] or source.token(k - 1) in (b";", b"{", b"}")]
+    here = source.on(line)
+    some = [k for k in here if k == here[0] or source.token(k - 1) in (b";", b"{", b"}")]
     if len(some) > 1:
-        code, at = b"", 0
+        parts, at = [], 0
         for k in some[1:]:
-            code += source.code[at:source.tokens[k][0]] + b"\n"
+            parts.append(source.code[at:source.tokens[k][0]])
             at = source.tokens[k][0]
-        where = reggio.fault(code + source.code[at:])[1] - line
+        where = reggio.fault(b"\n".join([*parts, source.code[at:]]))[1] - line
         return some[where] if 0 <= where < len(some) else some[0]
     return some[0] if some else None
 
