@@ -178,7 +178,8 @@ expect 'server: words' 2 '' 'usage: tools/server*' "$server what"
 expect 'server: no message' 1 '' '' "$server </dev/null"
 expect 'server: half a message' 1 '' '' "printf 'Content-Length: 100\r\n\r\n{\"jsonrpc\"' | $server"
 expect 'server: noise' 1 '' '' "$server <noise.rg"
-for tool in explain\ --trap\ endless.rg compare\ endless.rg server draw; do
+printf 'class A { next: mut A; }\nmain trace {\n  let a: mut A = nil;\n  while true { let b: mut A = new A; b.next = a; a = b; }\n}\n' >growing.rg
+for tool in explain\ --trap\ endless.rg compare\ growing.rg schedule\ add.rg\ add.plan\ --many\ 10000 server draw; do
   expect "$tool: Ctrl-C" 130 '*' "*${tool%% *}: stopped" "mkfifo -m 600 held 2>/dev/null; exec 9<>held; python3 -c 'import os, signal, sys; signal.signal(signal.SIGINT, signal.default_int_handler); os.execv(sys.argv[1], sys.argv[1:])' $here/tools/$tool <&9 & sleep 8; kill -INT \$!; wait \$!"
 done
 
@@ -280,12 +281,6 @@ expect 'new: a crate' 0 'crates/host is made: *' '' "$new host"
 expect 'new: its files' 0 '*my_pacer_is_here*' '' "cd copy/crates/host && grep -q '^host: rg_base' ../../crates.txt &&
   ls proofs/Lib.antt specs/Lib.antt src/headroom.rt src/lines.rt src/shown.rt stdout && echo my_pacer_is_here"
 expect 'new: the same once more' 1 '' 'new: host is there already' "$new host"
-
-# Ctrl-C ends a tool with one line, and no traceback.
-stopped() { echo "timeout --preserve-status -s INT 5 $*"; } # (by then it has begun, also at a load)
-expect 'compare: stopped' 130 '*' 'compare: stopped' "$(stopped "$compare" endless.rg)"
-expect 'draw: stopped' 130 '' 'draw: stopped' "tail -f /dev/null --pid \$\$ | $(stopped "$draw")"
-expect 'schedule: stopped' 130 '*' 'schedule: stopped' "$(stopped "$schedule" add.rg add.plan --many 10000)"
 
 for tool in "$here"/tools/*; do
   if [ -f "$tool" ] && [ -x "$tool" ] && [ "$(basename "$tool")" != unproved ]; then
