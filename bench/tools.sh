@@ -180,7 +180,7 @@ expect 'server: half a message' 1 '' '' "printf 'Content-Length: 100\r\n\r\n{\"j
 expect 'server: noise' 1 '' '' "$server <noise.rg"
 printf 'class A { next: mut A; }\nmain trace {\n  let a: mut A = nil;\n  while true { let b: mut A = new A; b.next = a; a = b; }\n}\n' >growing.rg
 for tool in explain\ --trap\ endless.rg compare\ growing.rg schedule\ add.rg\ add.plan\ --many\ 10000 server draw; do
-  expect "$tool: Ctrl-C" 130 '*' "*${tool%% *}: stopped" "mkfifo -m 600 held 2>/dev/null; exec 9<>held; python3 -c 'import os, signal, sys; signal.signal(signal.SIGINT, signal.default_int_handler); os.execv(sys.argv[1], sys.argv[1:])' $here/tools/$tool <&9 & sleep 8; kill -INT \$!; wait \$!"
+  expect "$tool: Ctrl-C" 130 '*' "*${tool%% *}: stopped" "mkfifo -m 600 held 2>/dev/null; exec 9<>held; python3 -c 'import os, signal, sys; signal.signal(signal.SIGINT, signal.default_int_handler); os.execv(sys.argv[1], sys.argv[1:])' $here/tools/$tool <&9 & sleep 4; kill -INT \$!; wait \$!"
 done
 
 heap=$here/tools/heap
@@ -222,7 +222,7 @@ expect 'explore: more than 1 MiB' 9 '' 'explore: long.rg: source too long' "$exp
 expect 'explore: noise' 1 '' 'explore: noise.rg: E01 byte at line *' "$explore noise.rg"
 expect 'explore: a page' 0 'wrote seven.html, for a browser' '' "$explore seven.rg"
 expect 'explore: the page again' 0 'wrote seven.html, for a browser' '' "$explore seven.rg"
-expect 'explore: another file of its name' 1 '' 'explore: seven.html is there, and is no page of this tool*' "echo >seven.html; $explore seven.rg"
+expect 'explore: another file of its name' 1 '' 'explore: seven.html is there, and is no page of this tool*' "echo >seven.html; $explore seven.rg; s=\$?; rm seven.html; exit \$s"
 expect 'explore: standard output' 0 '<!doctype html>*</html>' '' "$explore seven.rg -o -"
 expect 'explore: a page that cannot be written' 1 '' 'explore: folder: Is a directory' "$explore seven.rg -o folder"
 expect 'explore: a page without a folder' 1 '' 'explore: nowhere/a.html: No such file or directory' "$explore seven.rg -o nowhere/a.html"

@@ -542,6 +542,11 @@ class Writer:
                     raise Cannot(of.place, "Arrays have no methods, and keep their size: a loop goes along, `let i: int = 0; while i < size row { .. row[i] .. i = i + 1; }`, and what grows is a list of objects.")
         if any(it.kind == "function" for it in args):
             raise Cannot(e.start, FUNCTION)
+        if of.kind == "path" and method is None and home is not None:
+            if word in ("equals", "eq", "is_equal") and len(args) == 1:
+                self.note(of.place, "Whether two references lead to one object, `==` says.")
+                return f"({self.value(of.of, 5)} == {self.value(args[0], 5)})", ""
+            raise Cannot(of.place, f"`{home.name}` has no method `{word}`.")
         path = self.value(of, 8)
         if not getattr(e, "is_called", False):
             self.note(e.start, "A method is called with `call` in front.")
@@ -594,7 +599,8 @@ class Writer:
         act(node)
 
     def on_raw(self, node):
-        raise Cannot(node.start, "")
+        word = re.match(r"\w*", self.code[node.start:])[0]
+        raise Cannot(node.start, ABOUT.get(word, "") if word not in self.env else "")
 
     def on_let(self, node):
         word, right, tails = node.word, node.right, []
@@ -714,13 +720,6 @@ class Writer:
         for _, it in node.args:
             if it.kind == "text":
                 self.note(it.start, TEXT)
-            elif it.kind == "binary" and it.op == "+" and it.has(lambda one: one.kind == "text"):
-                self.note(it.start, TEXT)
-                parts = []
-                while it.kind == "binary" and it.op == "+":
-                    parts.append(it.right)
-                    it = it.left
-                shown += [self.value(one) for one in reversed([*parts, it]) if one.kind != "text"]
             elif not (it.kind == "name" and it.name in ("endl", "env")) and not (it.kind == "path" and it.name == "endl"):
                 said, tail = self.right(it, None)
                 shown.append(self.lift(it, said, "shown") if re.match(r"(call|new|read|more|freeze|merge)\b", said) else said)
@@ -841,9 +840,7 @@ class Writer:
             return
 
     def on_block(self, node):
-        self.note(node.start, "A block stands behind `if`, `else`, `while` or `enter` alone.")
-        self.insert(node.start, "if true ")
-        self.block(node)
+        raise Cannot(node.start, "A block stands behind `if`, `else`, `while` or `enter` alone.")
 
     def on_if(self, node, at=None):
         word, place = node.word, at if at is not None else node.start
@@ -912,17 +909,16 @@ class Writer:
             self.note(node.start, ABOUT.get(node.word, ABOUT["for"]))
         before = self.enter_loop(node)
         if node.bound is not None:
-            name, e = node.bound
-            said, tail = self.right(e, name)
-            type = self.type_of(e) or self.choose(self.all_types())
+            self.note(node.start, "A variable is declared in front of a loop, or in its body.")
+            (name, e), type = node.bound, self.type_of(node.bound[1]) or self.choose(self.all_types())
+            said = self.value(e)
+            self.insert(node.body.opens[1], f" let {name}: {type} = {said};")
             self.env[name] = type
-            ahead, turn, test = [f"let {name}: {type} = {said};{tail}"], f"{name} = {said};{tail}", f"not {name} is nil"
-        else:
-            test = self.truth(node.test) if node.test is not None else "true"
-            if node.word == "until":
-                test = f"not ({test})"
-            ahead = self.ahead()
-            turn = joined(re.sub(r"\blet (\w+): [\w ]+ =", r"\1 =", it) for it in ahead)
+        test = f"not {said} is nil" if node.bound is not None else self.truth(node.test) if node.test is not None else "true"
+        if node.word == "until":
+            test = f"not ({test})"
+        ahead = self.ahead()
+        turn = joined(re.sub(r"\blet (\w+): [\w ]+ =", r"\1 =", it) for it in ahead)
         self.block(node.body)
         self.leave_loop(node, before, ahead, test, turn)
 

@@ -567,10 +567,10 @@ class Reader:
 
     def read_while(self, start, indent):
         word = self.take().text
-        if word == "while" and self.at("let"):
+        if word == "while" and self.at("let"):      # while let Some(x) = e
             self.k -= 1
             node = self.read_if(start, indent)
-            return Node("raw", start, why="while") if node is None else self.done(Node("while", start, word=word, test=None, bound=node.bound, head=node.head, body=node.yes))
+            return self.done(Node("while", start, word=word, test=node.test, bound=node.bound, head=node.head, body=node.yes))
         test = self.head() if word not in ("loop", "forever") else None
         head = self.tok().start
         return self.done(Node("while", start, word=word, test=test, bound=None, head=head, body=self.block(indent)))
@@ -604,21 +604,13 @@ class Reader:
             while self.tok().kind == "name" and self.tok(1).text not in ("in", "of", ":", ",", "{", "<", "=") and not self.at("in", "of"):
                 node.type.append(self.take().text)
             if self.at("(") or self.tok(1).text == ",":
-                return None if self.tok(1).text == "," else None
-            if self.tok().kind == "name" and self.tok(1).text in ("in", "of", ":", "<", "="):
-                if self.tok(1).text == "<":   # for i < n { .. }, as Go has it
-                    node.kind, node.test, node.bound, node.word = "while", self.head(), None, "for"
-                    node.head, node.body = self.tok().start, self.block(indent)
-                    return self.done(node)
+                return None
+            if self.tok().kind == "name" and self.tok(1).text in ("in", "of", ":", "="):
                 node.name = self.take().text
                 self.take()
                 node.row = self.head()
                 if self.take("by", "step"):
                     self.expr()
-            elif self.at("{"):
-                node.kind, node.test, node.bound, node.word, node.head = "while", None, None, "for", self.tok().start
-                node.body = self.block(indent)
-                return self.done(node)
             else:
                 return None
         if opens:
@@ -665,6 +657,8 @@ class Reader:
 
     def read_word(self, start, indent):
         node = Node("command", start, word=self.take().text, of=None)
+        if self.at("!") and self.tok(1).text == "(":      # assert!(..)
+            self.take()
         if not self.at(";", "}", "{") and not self.tok().is_fresh:
             node.of = self.expr()
         return self.ended(node)

@@ -222,7 +222,7 @@ def find_syntax(reggio, source, found):
     there = "The source ends here" if ends else f"Here stands `{text(source.token(at))[:70]}`"
     if code == "E10" and len(source.code) <= LARGE:
         reasons.of_syntax(reggio, source, found, at)
-        if not found.cures:
+        if not found.cures and not found.reasons:
             can = could_stand(reggio, source.code[:source.tokens[at - 1][1]] if at else b"", [*SPELT, *language().words, *language().signs]) or []
             if not ends and source.token(at) in language().keywords and "a name" in can:
                 there += ", a reserved word, which is no name"

@@ -69,8 +69,8 @@ class Case:
     # -- Trying
 
     def is_taken(self, start, end, put, first, behind):
-        """Whether a source is accepted behind an edit: 1; or its next fault stands behind the statement that was edited: 2; or is
-        one of the rules in that statement, where there was one of the grammar: 3; else 0."""
+        """Whether a source is accepted behind an edit: 1; or its next fault stands behind the statement that was edited, or is
+        of another kind, that is looked for later: 2; else 0."""
         behind = max(end, behind)
         if put.rstrip()[-1:] not in (";", "{", "}") and not re.search("[;{}]", self.code[end:behind]) and behind < len(self.code):
             m = re.match("[^;{}]*[;{}]", self.code[behind:])   # what is tried ends where the statement does
@@ -83,7 +83,7 @@ class Case:
         stage = lambda one: 0 if one < "E10" else 1 if one < "E20" else 2
         mine, its, limit = stage(self.found.code()), stage(code), head.count("\n") + 1
         if its != mine:
-            return 0 if its < mine else 3 if self.code.count("\n", 0, min(start, first)) + 1 <= where <= limit else 2
+            return 0 if its < mine or self.code.count("\n", 0, min(start, first)) + 1 <= where <= limit else 2
         if where <= limit:
             return 0
         if mine == 1:  # (a fault that only moved on to the next token is no cure)
@@ -119,26 +119,8 @@ class Case:
                 good.append((took, one))
             if len([it for it in good if it[0] == 1]) >= SHOWN:
                 break
-        sure = [one for took, one in good if took == 1] or [one for took, one in good if took == 2]
-        return [self.cure(*one) for one in sure[:SHOWN]] or [one for _, it in good[:2] for one in self.once_more(*it)][:SHOWN]
-
-    def once_more(self, start, end, put):
-        """The cures of the fault that comes next in a statement, together with the edit behind which it comes."""
-        import reading
-        code = (self.code[:start] + put + self.code[end:]).encode("latin-1")
-        name = reading.FAULT.search(self.reggio.say("check", code)[2])
-        if not name or self.found.turns >= 2:
-            return []
-        coming = reading.Finding(name[1].decode(), int(name[2]))
-        coming.turns = self.found.turns + 1
-        reading.find(self.reggio, Source(code), coming)
-        self.found.reasons += coming.reasons
-        both = []
-        for _, a, b, more in coming.cures:
-            new = code[:a] + more + code[b:]
-            first, last = min(start, a), len(self.code) - min(len(code) - start - len(put), len(code) - b)
-            both.append(self.cure(first, last, new[first:len(new) - (len(self.code) - last)].decode("latin-1")))
-        return both
+        sure = [one for took, one in good if took == 1] or [one for _, one in good]
+        return [self.cure(*one) for one in sure[:SHOWN]]
 
     def title(self, start, end, put):
         """The statements, or the head, as they are behind an edit."""
@@ -167,9 +149,9 @@ class Case:
                 took = self.is_taken(*one, node.start, node.head if node.__dict__.get("head") else node.end)
                 if took == 1:
                     return near, [self.cure(*one)]
-                further = further or took and (took, near, one)
+                further = further or took and (near, one)
         if further:
-            return further[1], [self.cure(*further[2])] if further[0] == 2 else self.once_more(*further[2])
+            return further[0], [self.cure(*further[1])]
         return list(dict.fromkeys(told)), []
 
     # -- What is there
@@ -324,17 +306,6 @@ class Case:
         yield [(window.start, window.start, "".join(f"let {name}: {type} = {START[type]};{brk}" for name, type in zip(names, types))),
                (self.node.start, self.node.end, " ".join(f"{name} = {self.src(it)};" for name, it in zip(names, parts))),
                (window.end, window.end, brk + make(names))]
-
-    def chain(self, it, cap="mut"):
-        """The declarations on the way from which a variable has its value, with another capability."""
-        some = []
-        while it is not None and it.cap and len(some) < 6:
-            if self.code[it.cap[0]:it.cap[1]] == "paused":
-                some.append((*it.cap, cap))
-            right = it.node.right if it.kind == "variable" else None
-            it = self.declared(self.root(right)) if right is not None and right.kind in ("name", "path") and self.root(right) else None
-        return some
-
 
 # ---- Faults of tokens and of the grammar
 
@@ -642,11 +613,6 @@ def of_iso_wanted(case):
             said = [f"`giving {node.giving}` wants a `{want}` of the window's own region, which becomes its bridge; `{node.giving}` is `{seen}`" + (", and was declared outside of the window." if it is None else ".")]
             at = case.code.rindex(node.giving, 0, node.end)
             edits.append((at, at + len(node.giving), node.name))
-            n = case.fresh("n", "bridge")
-            copy = "".join(f" {n}.{name} = {node.giving}.{name};" for name, of in case.fields(seen, lambda of: of in START)) if seen.split()[-1] == want.split()[1] else None
-            made = f"let {n}: {want} = merge {node.giving};" if seen.startswith("iso ") else f"let {n}: {want} = new {home.name};{copy}" if copy is not None else None
-            if made:
-                edits.append([(node.body.shuts.start, node.body.shuts.start, made + " "), (at, at + len(node.giving), n)])
             return said, edits
     return [], []
 
@@ -755,8 +721,6 @@ def of_other_type(case, e, type, got, what):
             edits.append((*it.cap, cap))
         elif e.kind == "name" and it.kind == "parameter" or e.kind == "name" and it.kind == "variable" and it.type == got and mine != "iso":
             edits += [(*it.cap, cap)]
-            chain = case.chain(it, cap)
-            edits += [chain] if len(chain) > 1 else []
             edits += made_as_iso(case, it) if cap == "iso" and it.kind == "variable" and it.node.right is not None and it.node.right.kind == "new" else []
     if of == its and mine != "iso":     # to where it is put
         if node.kind == "assign" and node.lefts[0].kind == "name":
@@ -824,7 +788,7 @@ def of_capability(case):
         if it.kind == "self" and it.cap and it.type.split()[0] != "mut":
             edits.append((*it.cap, "tmp" if case.names.home.is_tmp else "mut"))
         elif it.cap and it.type.startswith("paused "):
-            edits += [(*it.cap, "mut"), *([case.chain(it)] if case.chain(it) else [])]
+            edits.append((*it.cap, "mut"))
         if method is not None:
             m = re.compile(r"\s*def\s+(\w+)").match(case.code, method.start)
             edits.append((m.start(1), m.end(1), "paused"))
@@ -935,7 +899,7 @@ def of_unavailable(case):
         elif node.kind == "swap":
             said.append("A region can't lie in itself: the variable that is swapped is another one.")
             edits += [(at.start, at.end, one) for one, it in case.variables() if it == type and one != name]
-        else:
+        elif node.kind != "assign" or at is not node.lefts[0]:
             edits.append((at.start, at.start + len(name), lent.name))
         return said, edits
     if is_ready(case, node.start, name):
@@ -1079,14 +1043,6 @@ def of_return(case):
     return ["A method has one `return`, in the last place of its body: what is known before is kept in a variable, and a loop ends by its test."], []
 
 
-def of_target(case):
-    """E38: a call whose result goes into a field or an element."""
-    node = case.node
-    got, g = case.type(node.rights[0]) if node.kind == "assign" else None, case.fresh("got")
-    edits = [case.whole(f"let {g}: {got} = {case.src(node.rights[0])}; {case.src(node.lefts[0])} = {g};")] if got else []
-    return ["The result of a call goes into a variable first, and from there into a field or an element."], edits
-
-
 def of_duplicate(case):
     """E21: a name that is there already."""
     node, brace = case.node, case.names.home
@@ -1173,7 +1129,7 @@ def of_type(case):
 
 
 RULES = {"E21": of_duplicate, "E22": of_type, "E30": of_mismatch, "E31": of_unavailable, "E32": of_capability, "E33": of_window, "E34": of_loop,
-         "E35": of_arity, "E36": of_iso_field, "E37": of_return, "E38": of_target}
+         "E35": of_arity, "E36": of_iso_field, "E37": of_return}
 
 
 def of_rule(reggio, source, found, first):
@@ -1185,7 +1141,7 @@ def of_rule(reggio, source, found, first):
     said, cures, edits, names = [], [], [], []
     if code in ("E20", "E30", "E37", "E38"):      # (what another language has for it is looked for first)
         said, cures = case.written(case.node.start)
-        said = said if cures else []
+        said = said if cures or code == "E38" else []
     if code == "E20":
         told, edits, names = of_unknown(case)
         said = said or told

@@ -60,10 +60,10 @@ def number(word, value, most):
 
 
 class Run:
-    """A program with its input, of which rg_trail tells the steps."""
+    """A program with its input, of which rg_trail tells the steps; and its name, as it is printed."""
 
     def __init__(self, name, source, given=b"", tune=TUNE, slides=False):
-        self.name, self.program = printable(name), program()
+        self.name, self.program = name, program()
         self.folder = tempfile.TemporaryDirectory()
         self.file, self.given = f"{self.folder.name}/source", f"{self.folder.name}/input"
         for to, data in (self.file, source), (self.given, given):

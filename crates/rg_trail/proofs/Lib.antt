@@ -1,4 +1,4 @@
 -- The lemmas that the answers of rg_trail use.
-mod Cells
+mod HeldCells
 mod Read
 mod Stand

@@ -1,4 +1,4 @@
-use Rattle.rg_trail.proofs.Cells.{is-held}
+use Rattle.rg_trail.proofs.HeldCells.{is-held}
 use Rattle.rg_trail.proofs.cells.field.Goals as goal
 
 pub element-requires : goal.element-requires
