@@ -96,13 +96,13 @@ struct Planned {
     images: Vec<Cargo>,
 }
 
-// The plan `TWO`, for the program `ADDING`.
-fn two(alloc: Global) -> Result<Planned, Stop>
+// A plan for the program `ADDING`.
+fn read_plan(alloc: Global, text: &[u8]) -> Result<Planned, Stop>
     ensures { IfOk result (λ two.
         IsReadFor (program_of two.accepted.program) two.plan two.images.items) }
 {
     let accepted = accepted(alloc, ADDING)?;
-    let plan = plan(alloc, TWO, &accepted)?;
+    let plan = plan(alloc, text, &accepted)?;
     let Ok(images) = images_in(alloc, &mut MemFiles::new(alloc), &plan, &accepted) else {
         return Err(Stop::Memory);
     };
@@ -143,7 +143,7 @@ fn text_behind(alloc: Global, two: Planned, schedule: &[u8]) -> Result<ByteList,
 
 // The text of the world of `TWO` behind a schedule.
 fn two_behind(alloc: Global, schedule: &[u8]) -> Result<ByteList, SchedStop> {
-    match two(alloc) {
+    match read_plan(alloc, TWO) {
         Ok(two) => text_behind(alloc, two, schedule),
         Err(_) => Err(SchedStop::Memory),
     }
@@ -239,8 +239,8 @@ fn is_taken(alloc: Global, two: Planned) -> Result<bool, Memory>
 
 #[test]
 fn a_behaviour_takes_what_its_cowns_have(rt: HostRuntime) -> Result<(), Fail> {
-    let planned = two(rt.alloc())?;
-    assert!(rt; matches!(is_taken(rt.alloc(), planned), Ok(true)));
+    let two = read_plan(rt.alloc(), TWO)?;
+    assert!(rt; matches!(is_taken(rt.alloc(), two), Ok(true)));
     Ok(())
 }
 

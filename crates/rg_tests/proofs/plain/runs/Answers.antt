@@ -1,5 +1,5 @@
 use Rattle.rg_run.proofs.Run.{begun-some}
 use Rattle.rg_tests.proofs.plain.runs.Goals as goal
 
-pub run-requires-clause-left : goal.run-requires-clause-left
-run-requires-clause-left c = begun-some c.program-program.result.now c.begin.new.self c.in_ok-begin.ensures.begins
+pub run-ended-requires-clause-left : goal.run-ended-requires-clause-left
+run-ended-requires-clause-left c = begun-some c.program-program.result.now c.begin.new.self c.in_ok-begin.ensures.begins

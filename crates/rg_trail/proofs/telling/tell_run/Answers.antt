@@ -15,7 +15,7 @@ steps-init g c =
     record {
       follows = c.requires.follows;
       stands = has-begun (program_of c.args.accepted.now.program) c.args.code.now _ _ _ _ _ _ accepted c.requires.lowers
-          (c.main_manager-manager.ensures ∙ ap (λ (q : Tables). q.manager) c.program.ensures.program) c.in-Ok.ensures.begun _ _;
+          (c.main_manager-manager.ensures ∙ ap (λ (q : Tables). q.manager) c.program.ensures.program) c.in-Ok-begin.ensures.begun _ _;
     }
 
 pub step-outcome-requires-clause-runs : goal.step-outcome-requires-clause-runs
