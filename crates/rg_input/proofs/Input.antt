@@ -1,7 +1,10 @@
 -- Facts on the bytes left of an input, one call after another. For callers.
-use Rattle.std.proofs.Common.{◌≡◌, ℕ, List, [], ◌++◌, Option, Some, None, append_assoc, refl, sym, subst}
+use Rattle.std.proofs.Common.{◌≡◌, ◌≢◌, ℕ, Bool, true, false, List, [], ◌++◌, Option, Some, None, append_assoc, refl, sym, subst}
+use Rattle.rg_base.specs.declared.outcome.Outcome.{Outcome}
+use Rattle.rg_base.specs.declared.outcome.Outcome.TheVariants as outcome
+use Rattle.rg_io.specs.Content.{Reply}
 use Rattle.rg_io.proofs.Content.{Gives-none, Gives-more}
-use Rattle.rg_input.specs.Numbers.{Pending, Follows, CanCome, OnInput}
+use Rattle.rg_input.specs.Numbers.{Pending, Follows, CanCome, OnInput, PiecesCame, nothing_came, piece_came, AsksFor, is_input_fault}
 
 -- nothing was read
 pub OnInput-still : (old new : Pending) (old_left new_left : Option (List ℕ)) (P : List ℕ → List ℕ → Type 0) →
@@ -51,3 +54,29 @@ pub OnInput-some : (old new : Pending) (old_left new_left : Option (List ℕ)) (
     OnInput old new old_left new_left P → (before : List ℕ) × (after : List ℕ) × P before after
 OnInput-some old new old_left None P follows fact = (_, _, (fact.2 [] (record { told = tt; ended = λ e. refl })).1)
 OnInput-some old new old_left (Some bytes) P follows fact = (_, _, (fact.2 bytes (record { told = refl; ended = follows })).1)
+
+-- a step that ends otherwise has no fault of the input
+pub no-input-fault : (r : Outcome) → r ≢ outcome.InputFault → is_input_fault r ≡ false
+no-input-fault outcome.Running other = refl
+no-input-fault (outcome.Printed v) other = refl
+no-input-fault outcome.Done other = refl
+no-input-fault (outcome.Trap kind line) other = refl
+no-input-fault outcome.InputFault other = absurd (other refl)
+no-input-fault outcome.Memory other = refl
+
+-- nothing was asked for in it
+pub asks-nothing : {T : Type 0} (replies : T → Reply → T → Type 0) (n : Pending) (source : T) (r : Outcome) → r ≢ outcome.InputFault →
+    AsksFor replies (is_input_fault r) n n source source
+asks-nothing replies n source r other = rw (no-input-fault r other) nothing_came
+
+-- pieces came, and then more
+pub PiecesCame-then : {T : Type 0} {replies : T → Reply → T → Type 0} {a b : Pending} {s t : T} {c : Pending} {u : T} →
+    PiecesCame replies a s b t → PiecesCame replies b t c u → PiecesCame replies a s c u
+PiecesCame-then first nothing_came = first
+PiecesCame-then first (piece_came second short bytes came) = piece_came (PiecesCame-then first second) short bytes came
+
+-- pieces came, and then what a call asks for
+pub AsksFor-then : {T : Type 0} {replies : T → Reply → T → Type 0} {a b : Pending} {s t : T} (fault : Bool) (c : Pending) (u : T) →
+    PiecesCame replies a s b t → AsksFor replies fault b c t u → AsksFor replies fault a c s u
+AsksFor-then false c u first second = PiecesCame-then first second
+AsksFor-then true c u first second = (second.0, PiecesCame-then first second.1, second.2, second.3)

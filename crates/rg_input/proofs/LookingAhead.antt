@@ -1,12 +1,14 @@
 -- What is held of an input where bytes came.
-use Rattle.std.proofs.Common.{◌≡◌, ℕ, ◌+◌, ◌-◌, ◌≤◌, inl, inr, false, List, [], ◌++◌, length, take, drop, Bool, Option, refl, sym, ◌∙◌, ap}
+use Rattle.std.proofs.Common.{◌≡◌, ℕ, zero, suc, ◌==◌, ◌+◌, ◌-◌, ◌≤◌, inl, inr, true, false, List, [], ◌∷◌, ◌++◌, length, take, drop, Bool, Option, refl, sym, ◌∙◌, ap}
 use Rattle.std.proofs.Common.{subst, append-nil, append_assoc, arith}
 use Rattle.std.proofs.lemmas.List.{length-take, drop-take, drop-drop}
 use Rattle.std.proofs.lemmas.Bool.{false≢true}
+use Rattle.std.proofs.lemmas.Bool.Decides.{nat_tests}
+use Rattle.rg_io.specs.Content.{Reply}
 use Rattle.rg_io.proofs.Content.{Gives-more}
-use Rattle.rg_input.specs.Inner.Ahead.{Came}
+use Rattle.rg_input.specs.Inner.Ahead.{Came, Refills}
 use Rattle.rg_input.specs.Inner.Held.{Reads}
-use Rattle.rg_input.specs.Numbers.{Pending, IsSure}
+use Rattle.rg_input.specs.Numbers.{Pending, IsSure, with_piece, PiecesCame, piece_came, AsksFor}
 use Rattle.rg_input.specs.Read.{is_whole}
 
 -- all that is held: the bytes that were looked at, and those ahead
@@ -56,6 +58,47 @@ still-held b c old ahead next looked short came same sure = elim came.asked [
       same-beside looked ahead (looked ++ next.held) next.ended bytes none.1 ∙ same sure
   | inr asked ↦ absurd (not-sure old ahead looked short asked (same sure) sure)
 ]
+
+-- a piece behind the bytes that lie ahead stands behind all that is held
+beside-piece : (looked : List ℕ) (ahead : Pending) (bytes : List ℕ) →
+    with_piece (beside looked ahead) bytes ≡ beside looked (with_piece ahead bytes)
+beside-piece looked ahead [] = refl
+beside-piece looked ahead (b ∷ bytes) =
+    let bytes_of : List ℕ → Pending = λ q. record { held = q; ended = ahead.ended } in ap bytes_of (append_assoc looked ahead.held (b ∷ bytes))
+
+-- where too little was looked at, the next piece is needed
+pub PiecesCame-refilled : {T : Type 0} (replies : T → Reply → T → Type 0) (old ahead next : Pending) (looked : List ℕ) (source s t : T) →
+    is_whole looked ≡ false → PiecesCame replies old source (beside looked ahead) s → Refills replies false ahead next s t →
+    PiecesCame replies old source (beside looked next) t
+PiecesCame-refilled replies old ahead next looked source s t short asked (inl same) =
+    subst (λ u. PiecesCame replies old source (beside looked next) u) (sym same.1)
+    (subst (λ n. PiecesCame replies old source (beside looked n) s) (sym same.0) asked)
+PiecesCame-refilled replies old ahead next looked source s t short asked (inr came) =
+    let is : with_piece (beside looked ahead) came.0 ≡ beside looked next =
+    beside-piece looked ahead came.0 ∙ ap (λ n. beside looked n) (sym came.2) in
+    subst (λ n. PiecesCame replies old source n t) is
+    (piece_came asked (not-sure (beside looked ahead) ahead looked short came.1 refl) came.0 came.3)
+
+-- the same where it failed
+pub AsksFor-failed : {T : Type 0} (replies : T → Reply → T → Type 0) (old ahead next : Pending) (looked : List ℕ) (source s t : T) →
+    is_whole looked ≡ false → PiecesCame replies old source (beside looked ahead) s → Refills replies true ahead next s t →
+    AsksFor replies true old (beside looked next) source t
+AsksFor-failed replies old ahead next looked source s t short asked failed =
+    subst (λ (n : Pending). AsksFor replies true old (beside looked n) source t) (sym failed.1)
+    (s, asked, not-sure (beside looked ahead) ahead looked short failed.0 refl, failed.2)
+
+-- nothing lies ahead
+pub nothing-ahead : (piece : List ℕ) (from left : ℕ) (ended : Bool) → left ≤ 0 → ended ≡ false →
+    ◌≡◌ {A = Pending} (record { held = take left (drop from piece); ended = ended }) (record { held = []; ended = false })
+nothing-ahead piece from zero ended none goes = rw goes refl
+nothing-ahead piece from (suc n) ended none goes = absurd (omega (arith, none))
+
+-- the first piece
+pub first-piece : (n : ℕ) (piece : List ℕ) → n ≤ length piece →
+    record { held = take n piece; ended = n == 0 } ≡ with_piece (record { held = []; ended = false }) (take n piece)
+first-piece zero piece within = refl
+first-piece (suc n) [] within = absurd (omega arith)
+first-piece (suc n) (b ∷ bytes) within = let some : (suc n == 0) ≡ false = grind (arith, nat_tests) in rw some refl
 
 -- what is left behind the first bytes
 pub skipped : (piece : List ℕ) (from left n : ℕ) → n ≤ length (take left (drop from piece)) →

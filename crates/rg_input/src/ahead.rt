@@ -1,8 +1,9 @@
 //! What came from a source and was not looked at (docs/language.md, "Input numbers").
 
 ghost use Rattle.std.specs.Prelude.{◌≡◌, ◌⊎◌, ◌<◌, ◌≤◌, true, false, [], length, drop, OnOk, OnErr};
+ghost use Rattle.std.specs.Result.{is_err};
 ghost use Rattle.rg_io.specs.Content.{Rose};
-ghost use Rattle.rg_input.specs.Inner.Ahead.{Came};
+ghost use Rattle.rg_input.specs.Inner.Ahead.{Came, Refills};
 ghost use Rattle.rg_input.specs.Numbers.{Follows};
 
 use crate::refusal::InputFault;
@@ -56,6 +57,9 @@ impl Ahead {
         ensures needed { OnErr result (self.old ≡ record { held = []; ended = false }) }
         ensures unasked { (self.old ≡ record { held = []; ended = false } → ⊥) →
             source.new ≡ source.old }
+        ensures asks { Refills S.replies (is_err result)
+            self.old self.new source.old source.new }
+        ensures quiet { OnOk result (S.faults source.new ≡ S.faults source.old) }
         ensures fault { OnErr result (Rose (S.faults source.old) (S.faults source.new)) }
         ensures never_falls { S.faults source.old ≤ S.faults source.new }
     {

@@ -2,12 +2,13 @@
 
 ghost use Rattle.std.specs.Prelude.{◌≡◌, ◌<◌, ◌≤◌, true, false, [], ◌++◌, length, take};
 ghost use Rattle.std.specs.Prelude.{slice_index, IfOk, OnOk, OnErr, IsOk};
+ghost use Rattle.std.specs.Result.{is_err};
 ghost use Rattle.std.specs.Option.{option_to_list};
 ghost use Rattle.rg_base.specs.Pieces.{is_blank};
 ghost use Rattle.rg_io.specs.Content.{Rose};
 ghost use Rattle.rg_input.specs.Read.{IsRead};
 ghost use Rattle.rg_input.specs.declared.held.Verdict.{Verdict as Saying};
-ghost use Rattle.rg_input.specs.Numbers.{Follows, IsSure, Refuses, is_input};
+ghost use Rattle.rg_input.specs.Numbers.{Follows, IsSure, AsksFor, Refuses, is_input};
 
 use crate::ahead::Ahead;
 use crate::bytes::Bytes;
@@ -133,6 +134,9 @@ impl Held {
         ensures idle { IsSure (pending self.old ahead.old) →
             IsOk result × (pending self.new ahead.new ≡ pending self.old ahead.old) }
         ensures unasked { IsSure (pending self.old ahead.old) → source.new ≡ source.old }
+        ensures asks { AsksFor S.replies (is_err result)
+            (pending self.old ahead.old) (pending self.new ahead.new) source.old source.new }
+        ensures quiet { OnOk result (S.faults source.new ≡ S.faults source.old) }
         ensures fault { OnErr result (Rose (S.faults source.old) (S.faults source.new)) }
         ensures never_falls { S.faults source.old ≤ S.faults source.new }
     {
@@ -181,6 +185,9 @@ impl Held {
             (result ≡ Ok (verdict_of why))
             × (pending self.new ahead.new ≡ pending self.old ahead.old) }
         ensures unasked { IsSure (pending self.old ahead.old) → source.new ≡ source.old }
+        ensures asks { AsksFor S.replies (is_err result)
+            (pending self.old ahead.old) (pending self.new ahead.new) source.old source.new }
+        ensures quiet { OnOk result (S.faults source.new ≡ S.faults source.old) }
 
         ensures fault { OnErr result (Rose (S.faults source.old) (S.faults source.new)) }
         ensures never_falls { S.faults source.old ≤ S.faults source.new }
@@ -222,6 +229,9 @@ impl Held {
             (result ≡ Ok (is_input why))
             × (pending self.new ahead.new ≡ pending self.old ahead.old) }
         ensures unasked { IsSure (pending self.old ahead.old) → source.new ≡ source.old }
+        ensures asks { AsksFor S.replies (is_err result)
+            (pending self.old ahead.old) (pending self.new ahead.new) source.old source.new }
+        ensures quiet { OnOk result (S.faults source.new ≡ S.faults source.old) }
 
         ensures fault { OnErr result (Rose (S.faults source.old) (S.faults source.new)) }
         ensures never_falls { S.faults source.old ≤ S.faults source.new }

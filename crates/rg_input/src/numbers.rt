@@ -1,9 +1,10 @@
 //! The numbers of an input, one after another (docs/language.md, "Input numbers").
 
-ghost use Rattle.std.specs.Prelude.{◌≡◌, ◌≤◌, false, [], OnErr, IfErr};
+ghost use Rattle.std.specs.Prelude.{◌≡◌, ◌≢◌, ◌≤◌, false, [], OnOk, OnErr, IfErr};
+ghost use Rattle.std.specs.Result.{is_err};
 ghost use Rattle.rg_io.specs.Content.{Rose};
-ghost use Rattle.rg_input.specs.Numbers.{Follows, OnInput, Looks, Answers};
-ghost use Rattle.rg_input.specs.Numbers.{is_input, IsSure, Refuses, Stays};
+ghost use Rattle.rg_input.specs.Numbers.{Pending, Follows, OnInput, Looks, Answers};
+ghost use Rattle.rg_input.specs.Numbers.{is_input, is_fault, IsSure, AsksFor, Refuses, Stays};
 
 use crate::ahead::Ahead;
 use crate::held::{Held, Verdict};
@@ -49,7 +50,9 @@ impl Numbers {
         ensures refused { (why : NumberRefusal) → Refuses self.old why →
             (result ≡ Ok (is_input why)) × (self.new ≡ self.old) }
         ensures unasked { IsSure self.old → source.new ≡ source.old }
+        ensures asks { AsksFor S.replies (is_err result) self.old self.new source.old source.new }
 
+        ensures quiet { OnOk result (S.faults source.new ≡ S.faults source.old) }
         ensures fault { OnErr result (Rose (S.faults source.old) (S.faults source.new)) }
         ensures never_falls { S.faults source.old ≤ S.faults source.new }
     {
@@ -67,7 +70,11 @@ impl Numbers {
         ensures refused { (why : NumberRefusal) → Refuses self.old why →
             (result ≡ Err why) × (self.new ≡ self.old) }
         ensures unasked { IsSure self.old → source.new ≡ source.old }
+        ensures asks { (n : Pending) ×
+            AsksFor S.replies (is_fault result) self.old n source.old source.new }
 
+        ensures quiet { result ≢ Err NumberRefusal.InputFault →
+            S.faults source.new ≡ S.faults source.old }
         ensures fault { result ≡ Err NumberRefusal.InputFault →
             Rose (S.faults source.old) (S.faults source.new) }
         ensures never_falls { S.faults source.old ≤ S.faults source.new }

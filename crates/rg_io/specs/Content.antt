@@ -28,6 +28,11 @@ abbrev pub Gives : Option (List ℕ) → Option (List ℕ) → List ℕ → Type
 Gives None new bytes = new ≡ None
 Gives (Some old) new bytes = (rest : List ℕ) × (old ≡ bytes ++ rest) × (new ≡ Some rest)
 
+-- what comes of a read: bytes, none of them where none is left, or a fault
+pub data Reply : Type 0 where
+  gave : List ℕ → Reply
+  failed : Reply
+
 -- one more; the greatest u64 stays
 abbrev pub one_more : ℕ → ℕ
 one_more n = if nat_lt n (2 ^ 64 - 1) then n + 1 else n

@@ -4,7 +4,8 @@ ghost use Rattle.std.specs.Prelude.{◌≡◌, ◌≤◌, ◌<◌, ◌++◌, [],
 ghost use Rattle.std.specs.Prelude.{IfOk, OnOk, OnErr, IfSome, IsErr};
 ghost use Rattle.rg_io.specs.Calls.{no_calls, with_failing, IsNextFailing, with_call};
 ghost use Rattle.rg_io.specs.Calls.{with_fault};
-ghost use Rattle.rg_io.specs.Content.{Rose, Gives};
+ghost use Rattle.rg_io.specs.Content.{Rose, Gives, gave, failed};
+ghost use Rattle.rg_io.specs.MemSource.{memory_replies};
 
 use crate::calls::Calls;
 use crate::failed::Failed;
@@ -86,6 +87,8 @@ impl Source for MemSource {
 
     ghost left = { λ s. Some s.left };
 
+    ghost replies = { memory_replies };
+
     fn read(&mut self, buf: &mut [u8]) -> Result<usize, Failed>
         requires { 0 < length buf.old }
         ensures within { IfOk result (λ n. n ≤ length buf.new) }
@@ -93,6 +96,10 @@ impl Source for MemSource {
             Gives (Some self.old.left) (Some self.new.left) (take n buf.new)) }
         ensures end { IfOk result (λ n. n ≡ 0 →
             IfSome (Some self.old.left) (λ bytes. bytes ≡ [])) }
+        ensures replied { IfOk result (λ n.
+            memory_replies self.old (gave (take n buf.new)) self.new) }
+        ensures quiet { OnOk result (self.new.calls.faults ≡ self.old.calls.faults) }
+        ensures refused { OnErr result (memory_replies self.old failed self.new) }
         ensures failed { OnErr result (Rose self.old.calls.faults self.new.calls.faults) }
         ensures kept { OnErr result (Some self.new.left ≡ Some self.old.left) }
         ensures buffer_kept { OnErr result (buf.new ≡ buf.old) }
@@ -104,8 +111,6 @@ impl Source for MemSource {
         ensures moved { IfOk result (λ n. buf.new ≡ take n self.old.left ++ drop n buf.old) }
         ensures passed { IfOk result (λ n. self.new ≡
             record self.old { left = drop n self.old.left; calls = with_call self.old.calls }) }
-        ensures refused { OnErr result (self.new ≡
-            record self.old { calls = with_fault self.old.calls }) }
     {
         self.calls.count()?;
         let left = bytes_from(&self.bytes, self.given);

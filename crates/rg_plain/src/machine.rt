@@ -6,7 +6,7 @@ ghost use Rattle.rg_tree.specs.Rows.RowTrees.{program_of};
 ghost use Rattle.rg_rules.specs.Acceptance.{Accepted};
 ghost use Rattle.rg_rules.specs.Outside.Inputs.{first_asks};
 ghost use Rattle.rg_io.specs.Content.{Rose};
-ghost use Rattle.rg_input.specs.Numbers.{Follows, OnInput};
+ghost use Rattle.rg_input.specs.Numbers.{AsksFor, Follows, OnInput, Pending, is_input_fault};
 ghost use Rattle.rg_names.specs.TableOf.{IsTableOf};
 ghost use Rattle.rg_values.specs.Kept.{kept_of, shown};
 ghost use Rattle.rg_plain.specs.Machine.{Begins, BegunWith, Fits, KeepsFit, StepsOn, fresh};
@@ -164,8 +164,12 @@ impl PlainMachine {
 
         ensures input_fault { result ≡ Outcome.InputFault →
             first_asks (shown program.now self.old.kept.items) ≡ true }
+        ensures asks { (n : Pending) ×
+            AsksFor S.replies (is_input_fault result) input.old n source.old source.new }
         ensures fault { result ≡ Outcome.InputFault →
             Rose (S.faults source.old) (S.faults source.new) }
+        ensures no_fault { result ≢ Outcome.InputFault →
+            S.faults source.new ≡ S.faults source.old }
         ensures never_falls { S.faults source.old ≤ S.faults source.new }
     {
         match &self.classes {
@@ -205,6 +209,8 @@ impl PlainMachine {
 
         ensures input_fault { result ≡ Ended.InputFault →
             Rose (S.faults source.old) (S.faults source.new) }
+        ensures source_quiet { result ≢ Ended.InputFault →
+            S.faults source.new ≡ S.faults source.old }
         ensures output_fault { result ≡ Ended.OutputFault →
             Rose (O.faults out.old) (O.faults out.new) }
         ensures source_never_falls { S.faults source.old ≤ S.faults source.new }
@@ -241,6 +247,8 @@ impl PlainMachine {
 
         ensures input_fault { result.ended ≡ Ended.InputFault →
             Rose (S.faults source.old) (S.faults source.new) }
+        ensures source_quiet { result.ended ≢ Ended.InputFault →
+            S.faults source.new ≡ S.faults source.old }
         ensures output_fault { result.ended ≡ Ended.OutputFault →
             Rose (O.faults out.old) (O.faults out.new) }
         ensures source_never_falls { S.faults source.old ≤ S.faults source.new }

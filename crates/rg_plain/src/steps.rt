@@ -9,7 +9,7 @@ ghost use Rattle.rg_tree.specs.Rows.RowsExist.{IsKindIn};
 ghost use Rattle.rg_tree.specs.Tree.{collect};
 ghost use Rattle.rg_rules.specs.Outside.Inputs.{first_asks, kind_asks};
 ghost use Rattle.rg_io.specs.Content.{Rose};
-ghost use Rattle.rg_input.specs.Numbers.{Follows, OnInput};
+ghost use Rattle.rg_input.specs.Numbers.{AsksFor, Follows, OnInput, Pending, is_input_fault};
 ghost use Rattle.rg_values.specs.Fits.{PartsFit};
 ghost use Rattle.rg_plain.specs.Inner.Inputs.{MadeOn, SettlesOn};
 ghost use Rattle.rg_values.specs.Steps.{Makes, Stands};
@@ -98,8 +98,8 @@ fn statement_step<S: Source>(
     requires top { (below : List ItemRow) × (m.old.items.items ≡ below ++ ItemRow.Rest span ∷ []) }
     requires fit { PartsFit book.now.program m.old }
     requires follows { Follows numbers.old (S.left source.old) }
-    ensures { MadeOn S.left S.faults book.now.program m.old m.new numbers.old numbers.new source.old
-        source.new result }
+    ensures { MadeOn S.left S.faults S.replies book.now.program m.old m.new numbers.old numbers.new
+        source.old source.new result }
 {
     let number = first(book, &m.items, span);
     let row = book.stmt(number);
@@ -134,8 +134,8 @@ fn row_step<S: Source>(
     requires top { (below : List ItemRow) × (m.old.items.items ≡ below ++ row ∷ []) }
     requires fit { PartsFit book.now.program m.old }
     requires follows { Follows numbers.old (S.left source.old) }
-    ensures { MadeOn S.left S.faults book.now.program m.old m.new numbers.old numbers.new source.old
-        source.new result }
+    ensures { MadeOn S.left S.faults S.replies book.now.program m.old m.new numbers.old numbers.new
+        source.old source.new result }
 {
     match row {
         ItemRow::Rest(span) => { statement_step(alloc, book, m, span, numbers, source) }
@@ -201,7 +201,10 @@ pub(crate) fn whole_step<S: Source>(
     ensures follows { Follows numbers.new (S.left source.new) }
     ensures input_fault { result ≡ Outcome.InputFault →
         first_asks (shown book.now.program m.old.items.items) ≡ true }
+    ensures asks { (n : Pending) ×
+        AsksFor S.replies (is_input_fault result) numbers.old n source.old source.new }
     ensures fault { result ≡ Outcome.InputFault → Rose (S.faults source.old) (S.faults source.new) }
+    ensures no_fault { result ≢ Outcome.InputFault → S.faults source.new ≡ S.faults source.old }
     ensures never_falls { S.faults source.old ≤ S.faults source.new }
 {
     let row = m.items[m.items.len() - 1];

@@ -81,6 +81,16 @@ still t s k after u old between out o r Before After ran before more is =
 never : (e : Ended) → None ≡ Some e → ⊥
 never e is = cc
 
+-- a run ends with a fault of the input where its step does
+pub fault_ends : (o : Outcome) (k after : ℕ) (between out : Option (List ℕ)) (r : Option Ended) → CountIs o k after between out r →
+    o ≡ outcome.InputFault → r ≡ Some ended.InputFault
+fault_ends o k after between out r is e =
+    let fault : CountIs outcome.InputFault k after between out r = subst (λ (x : Outcome). CountIs x k after between out r) e is in fault.0
+
+-- the step of a run that goes on doesn't
+pub goes_faultless : (o : Outcome) (k after : ℕ) (between out : Option (List ℕ)) → CountIs o k after between out None → o ≢ outcome.InputFault
+goes_faultless o k after between out is e = never ended.InputFault (fault_ends o k after between out None is e)
+
 -- a run that goes on has things to do
 pub left_on : {R : Type 0} (rows : List R) (o : Outcome) (k after : ℕ) (between out : Option (List ℕ)) → CountIs o k after between out None →
     LeavesRows rows o → rows ≢ []

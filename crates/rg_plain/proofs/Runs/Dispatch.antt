@@ -10,6 +10,7 @@ use Rattle.rg_rules.specs.Items.{Item, Do, EndAt, LeaveAt, LeaveGiving, Back, it
 use Rattle.rg_values.specs.declared.state.rows.ItemRow.{ItemRow}
 use Rattle.rg_values.specs.declared.state.rows.ItemRow.TheVariants as row
 use Rattle.rg_values.specs.Kept.{Kept, items_from, put_row, shown, plain_of, ItemFits, ItemsFit}
+use Rattle.rg_input.specs.Numbers.{is_input_fault}
 use Rattle.rg_plain.specs.Inner.Inputs.{StepOn, SettlesOn}
 use Rattle.rg_plain.specs.Outcomes.{EndsMain, QuietOrPrints, LeavesRows, settled_outcome}
 use Rattle.rg_values.specs.Printing.{PrintsOrStays, item_prints, first_prints}
@@ -109,6 +110,16 @@ leaves_rows t old new before after outcome.Done fit h = rows-none t new.items fi
 leaves_rows t old new before after (outcome.Trap kind line) fit h = tt
 leaves_rows t old new before after outcome.InputFault fit h = tt
 leaves_rows t old new before after outcome.Memory fit h = tt
+
+-- a step that is the last one ends with a fault of the input where it did before
+pub settled-input : (r : Outcome) (is_last : Bool) → is_input_fault r ≡ is_input_fault (settled_outcome r is_last)
+settled-input outcome.Running true = refl
+settled-input outcome.Running false = refl
+settled-input (outcome.Printed v) is_last = refl
+settled-input outcome.Done is_last = refl
+settled-input (outcome.Trap kind line) is_last = refl
+settled-input outcome.InputFault is_last = refl
+settled-input outcome.Memory is_last = refl
 
 -- a fault of the input stays one
 pub settled-fault : (r : Outcome) (is_last : Bool) → settled_outcome r is_last ≡ outcome.InputFault → r ≡ outcome.InputFault

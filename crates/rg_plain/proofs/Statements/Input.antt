@@ -15,7 +15,7 @@ use Rattle.rg_rules.specs.State.{State}
 use Rattle.rg_rules.specs.Steps.{Stepped, Went, stepped, next}
 use Rattle.rg_input.specs.declared.refusal.NumberRefusal.{NumberRefusal}
 use Rattle.rg_input.specs.declared.refusal.NumberRefusal.TheVariants as no
-use Rattle.rg_input.specs.Numbers.{Pending, OnInput, Answers, Looks, is_more}
+use Rattle.rg_input.specs.Numbers.{Pending, OnInput, Answers, Looks, is_more, is_fault, is_input_fault}
 use Rattle.rg_input.proofs.Input.{OnInput-still}
 use Rattle.rg_values.specs.declared.state.rows.ItemRow.{ItemRow}
 use Rattle.rg_plain.specs.declared.steps.input.Wanted.{Wanted}
@@ -131,3 +131,9 @@ prints t old new line r o n left is makes =
     reads_nothing t old new o n left
     (subst P (sym is) (λ input. prints-is (next (classes_of t) (plain_of t old input)) (plain_of t old input) (plain_of t new input) line r (makes
     input)))
+
+-- a step that has no value ends with a fault of the input where that was the answer
+pub refused-fault : (why : NumberRefusal) (line : ℕ) → is_fault {A = Val} (Err why) ≡ is_input_fault (refused_by why line)
+refused-fault no.End line = refl
+refused-fault no.Input line = refl
+refused-fault no.InputFault line = refl

@@ -1,5 +1,5 @@
 -- Steps that may read the input, of the bytes that are left before and after them (docs/language.md, "Steps").
-use Rattle.std.specs.Prelude.{◌≡◌, ◌≤◌, ℕ, true, false, List, Option, Result, Ok, Err}
+use Rattle.std.specs.Prelude.{◌≡◌, ◌≢◌, ◌≤◌, ℕ, true, false, List, Option, Result, Ok, Err}
 use Rattle.rg_base.specs.declared.outcome.Outcome.{Outcome}
 use Rattle.rg_base.specs.declared.outcome.Outcome.TheVariants as outcome
 use Rattle.rg_base.specs.declared.outcome.Trap.TheVariants.{Input, End}
@@ -10,10 +10,10 @@ use Rattle.rg_tree.specs.Rows.Tables.{Tables}
 use Rattle.rg_tree.specs.Rows.RowTrees.{classes_of}
 use Rattle.rg_rules.specs.Outside.Inputs.{first_asks}
 use Rattle.rg_rules.specs.Steps.{next}
-use Rattle.rg_io.specs.Content.{Rose}
+use Rattle.rg_io.specs.Content.{Rose, Reply}
 use Rattle.rg_input.specs.declared.refusal.NumberRefusal.{NumberRefusal}
 use Rattle.rg_input.specs.declared.refusal.NumberRefusal.TheVariants as no
-use Rattle.rg_input.specs.Numbers.{Answers, Follows, Looks, OnInput, Pending}
+use Rattle.rg_input.specs.Numbers.{Answers, AsksFor, Follows, Looks, OnInput, Pending, is_input_fault}
 use Rattle.rg_values.specs.declared.state.parts.Parts.{Parts}
 use Rattle.rg_plain.specs.declared.steps.input.Wanted.{Wanted}
 use Rattle.rg_plain.specs.declared.steps.input.Wanted.TheVariants as wanted
@@ -27,17 +27,19 @@ abbrev pub StepOn : Tables → (old new : Kept) → Outcome → (before after : 
 StepOn t old new result before after =
     StepIs (next (classes_of t) (plain_of t old before)) (plain_of t old before) (plain_of t new after) result
 
--- What the step of the topmost row did, with a source of which it is told what is left and how often it failed. The source is asked only where the
--- first thing to do asks, and a fault of the input is one of the source.
-pub record MadeOn {S : Type 0} (left : S → Option (List ℕ)) (faults : S → ℕ) (t : Tables) (old new : Parts) (held held' : Pending)
-    (source source' : S) (result : Outcome) : Type 0 where
+-- What the step of the topmost row did, with a source of which it is told what is left, how often it failed, and what a read of it is. The source is
+-- asked only where the first thing to do asks, no more than one number needs, and a fault of the input is one of the source.
+pub record MadeOn {S : Type 0} (left : S → Option (List ℕ)) (faults : S → ℕ) (replies : S → Reply → S → Type 0) (t : Tables) (old new : Parts)
+    (held held' : Pending) (source source' : S) (result : Outcome) : Type 0 where
   pub step : OnInput held held' (left source) (left source') (StepOn t (kept_of old) (kept_of new) result)
   pub reads_nothing : first_asks (shown t old.items.items) ≡ false → (held' ≡ held) × (source' ≡ source)
   pub fit : PartsFit t new
   pub quiet : QuietOrPrints (shown t old.items.items) result
   pub follows : Follows held' (left source')
   pub input_fault : result ≡ outcome.InputFault → first_asks (shown t old.items.items) ≡ true
+  pub asks : (n : Pending) × AsksFor replies (is_input_fault result) held n source source'
   pub fault : result ≡ outcome.InputFault → Rose (faults source) (faults source')
+  pub no_fault : result ≢ outcome.InputFault → faults source' ≡ faults source
   pub never_falls : faults source ≤ faults source'
 
 -- what a whole step that finds these bytes answers, and what it left of them

@@ -1,8 +1,9 @@
 //! The steps of `read` and `more` (docs/language.md, "Steps").
 
-ghost use Rattle.std.specs.Prelude.{◌≡◌, ◌≤◌, Err};
+ghost use Rattle.std.specs.Prelude.{◌≡◌, ◌≢◌, ◌≤◌, Err};
 ghost use Rattle.rg_io.specs.Content.{Rose};
-ghost use Rattle.rg_input.specs.Numbers.{Follows, OnInput};
+ghost use Rattle.rg_input.specs.Numbers.{AsksFor, Follows, OnInput, Pending};
+ghost use Rattle.rg_input.specs.Numbers.{is_fault, is_input_fault};
 ghost use Rattle.rg_values.specs.Fits.{PartsFit};
 ghost use Rattle.rg_plain.specs.Inner.Inputs.{Gave, StepOn, refused_by, right_for};
 ghost use Rattle.rg_values.specs.Spots.{LeftFits, statement_of};
@@ -51,8 +52,12 @@ fn fetch<S: Source>(
     ensures gave { OnInput numbers.old numbers.new (S.left source.old) (S.left source.new)
         (Gave wanted result) }
     ensures follows { Follows numbers.new (S.left source.new) }
+    ensures asks { (n : Pending) ×
+        AsksFor S.replies (is_fault result) numbers.old n source.old source.new }
     ensures fault { result ≡ Err NumberRefusal.InputFault →
         Rose (S.faults source.old) (S.faults source.new) }
+    ensures no_fault { result ≢ Err NumberRefusal.InputFault →
+        S.faults source.new ≡ S.faults source.old }
     ensures never_falls { S.faults source.old ≤ S.faults source.new }
 {
     match wanted {
@@ -86,7 +91,10 @@ pub(crate) fn input_step<S: Source>(
     ensures fit { PartsFit book.now.program m.new }
 
     ensures follows { Follows numbers.new (S.left source.new) }
+    ensures asks { (n : Pending) ×
+        AsksFor S.replies (is_input_fault result) numbers.old n source.old source.new }
     ensures fault { result ≡ Outcome.InputFault → Rose (S.faults source.old) (S.faults source.new) }
+    ensures no_fault { result ≢ Outcome.InputFault → S.faults source.new ≡ S.faults source.old }
     ensures never_falls { S.faults source.old ≤ S.faults source.new }
 {
     let aim = match aim_of(book, m, to.left) {

@@ -18,7 +18,7 @@ pub returns-in-Prints : goal.returns-in-Prints
 returns-in-Prints g c =
     let t = c.args.book.now.program in
     let new = c.print_step.new.m in
-    unasked _ _ t c.args.m.now new _ _ c.printed.result
+    unasked _ _ _ t c.args.m.now new _ _ c.printed.result
     (prints t (kept_of c.args.m.now) (kept_of new) c.stmt-row.result.line c.print_step.result c.printed.result _ _ c.printed.ensures.is
     c.print_step.ensures.step)
     (inr c.printed.ensures.prints) c.print_step.ensures.fit c.printed.ensures.asks_nothing c.requires.follows
@@ -27,5 +27,5 @@ pub returns-in-Nothing : goal.returns-in-Nothing
 returns-in-Nothing g c =
     let t = c.args.book.now.program in
     let quiet : first_prints (shown t c.args.m.now.items.items) ≡ false = search rules in
-    does-unasked _ _ t c.args.m.now c.kind_step.new.m _ _ c.stmt-row.result.line c.kind_step.result c.outcome.result c.kind_step.ensures.step quiet
+    does-unasked _ _ _ t c.args.m.now c.kind_step.new.m _ _ c.stmt-row.result.line c.kind_step.result c.outcome.result c.kind_step.ensures.step quiet
     c.kind_step.ensures.fit c.outcome.ensures.is c.outcome.ensures.asks_nothing c.requires.follows

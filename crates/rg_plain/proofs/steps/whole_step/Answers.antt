@@ -1,9 +1,11 @@
-use Rattle.std.proofs.Common.{sym, ◌∙◌, arith}
+use Rattle.std.proofs.Common.{sym, ap, subst, ◌∙◌, arith}
 use Rattle.std.proofs.lemmas.Bool.Decides.{nat_tests}
+use Rattle.rg_input.specs.Numbers.{AsksFor, is_input_fault}
 use Rattle.rg_input.proofs.Input.{OnInput-map, OnInput-some}
 use Rattle.rg_plain.specs.Inner.Inputs.{StepOn, SettlesOn}
 use Rattle.rg_values.specs.Kept.{kept_of}
-use Rattle.rg_plain.proofs.Runs.Dispatch.{settled_on, settled-fault, leaves_rows}
+use Rattle.rg_plain.specs.Outcomes.{settled_outcome}
+use Rattle.rg_plain.proofs.Runs.Dispatch.{settled_on, settled-fault, settled-input, leaves_rows}
 use Rattle.rg_plain.proofs.steps.whole_step.Goals as goal
 
 pub returns-clause-step : goal.returns-clause-step
@@ -41,3 +43,13 @@ returns-clause-input_fault g c fault =
 pub returns-clause-fault : goal.returns-clause-fault
 returns-clause-fault g c fault =
     c.row_step-outcome.ensures.fault (settled-fault c.row_step-outcome.result c.is_empty.result (sym c.settled.ensures ∙ fault))
+
+pub returns-clause-asks : goal.returns-clause-asks
+returns-clause-asks g c =
+    let asks = c.row_step-outcome.ensures.asks in
+    let is = settled-input c.row_step-outcome.result c.is_empty.result ∙ sym (ap is_input_fault c.settled.ensures) in
+    (asks.0, subst (λ b. AsksFor g.S.Source.replies b c.args.numbers.now asks.0 c.args.source.now c.row_step-outcome.new.source) is asks.1)
+
+pub returns-clause-no_fault : goal.returns-clause-no_fault
+returns-clause-no_fault g c other =
+    c.row_step-outcome.ensures.no_fault (λ e. other (c.settled.ensures ∙ ap (λ r. settled_outcome r c.is_empty.result) e))

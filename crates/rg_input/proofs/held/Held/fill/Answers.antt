@@ -1,9 +1,27 @@
-use Rattle.std.proofs.Common.{◌≡◌, ◌∙◌, false, refl, sym, ap, subst, arith, rules}
-use Rattle.rg_input.specs.Numbers.{Pending}
+use Rattle.std.proofs.Common.{◌≡◌, ◌∙◌, false, [], append-nil, refl, sym, ap, subst, arith, rules}
+use Rattle.std.proofs.lemmas.Result.{err_from_is_err_and}
+use Rattle.rg_io.proofs.Content.{Gives-none}
+use Rattle.rg_input.specs.Numbers.{Pending, PiecesCame, nothing_came}
 use Rattle.rg_input.specs.Inner.Held.{has_enough, looked_at, pending, Reads}
-use Rattle.rg_input.proofs.LookingAhead.{Reads-came, still-held}
+use Rattle.rg_input.proofs.LookingAhead.{Reads-came, still-held, PiecesCame-refilled, AsksFor-failed}
 use Rattle.rg_input.proofs.Holding.{short-looked, has-more}
 use Rattle.rg_input.proofs.held.Held.fill.Goals as goal
+
+pub loop-ahead-init : goal.loop-ahead-init
+loop-ahead-init g c = record {
+  follows = c.requires;
+  reads = record {
+    read = [];
+    given = Gives-none (g.S.Source.left c.args.source.now);
+    kept = sym (append-nil (pending c.args.self.now c.args.ahead.now).held);
+    ended = λ over. (refl, over);
+  };
+  idle = λ sure. refl;
+  unasked = λ sure. refl;
+  asked = nothing_came;
+  quiet = refl;
+  never_falls = omega arith;
+}
 
 pub loop-ahead-preserved : goal.loop-ahead-preserved
 loop-ahead-preserved g c =
@@ -21,6 +39,10 @@ loop-ahead-preserved g c =
           c.in_ok-refill.ensures.came c.loop-ahead.invariant.idle sure;
       unasked = λ sure. c.in_ok-refill.ensures.unasked
           (has-more c.loop-ahead.self old c.loop-ahead.ahead short c.loop-ahead.invariant.idle sure) ∙ c.loop-ahead.invariant.unasked sure;
+      asked = subst (λ n. PiecesCame g.S.Source.replies old c.args.source.now n c.refill.new.source) (sym kept)
+          (PiecesCame-refilled g.S.Source.replies old c.loop-ahead.ahead c.refill.new.self looked c.args.source.now c.loop-ahead.source
+          c.refill.new.source (short-looked c.loop-ahead.self short) c.loop-ahead.invariant.asked c.in_ok-refill.ensures.asks);
+      quiet = c.in_ok-refill.ensures.quiet ∙ c.loop-ahead.invariant.quiet;
       never_falls = omega (arith, c.in_ok-refill.ensures.never_falls, c.loop-ahead.invariant.never_falls);
     }
 
@@ -62,3 +84,21 @@ returns-then-is_empty-clause-unasked g c sure =
     let old = pending c.args.self.now c.args.ahead.now in
     c.in_ok-refill.ensures.unasked (has-more c.loop-ahead.self old c.loop-ahead.ahead short c.loop-ahead.invariant.idle sure)
     ∙ c.loop-ahead.invariant.unasked sure
+
+pub returns-in_err-refill-clause-asks : goal.returns-in_err-refill-clause-asks
+returns-in_err-refill-clause-asks g c =
+    let short : has_enough c.loop-ahead.self ≡ false = search rules in
+    let p = err_from_is_err_and c.from_residual.result c.from_residual.ensures.1 in
+    rw p.1 (AsksFor-failed g.S.Source.replies (pending c.args.self.now c.args.ahead.now) c.loop-ahead.ahead c.refill.new.self
+    (looked_at c.loop-ahead.self) c.args.source.now c.loop-ahead.source c.refill.new.source (short-looked c.loop-ahead.self short)
+    c.loop-ahead.invariant.asked c.in_err-refill.ensures.asks)
+
+pub returns-then-is_empty-clause-asks : goal.returns-then-is_empty-clause-asks
+returns-then-is_empty-clause-asks g c =
+    let short : has_enough c.loop-ahead.self ≡ false = search rules in
+    PiecesCame-refilled g.S.Source.replies (pending c.args.self.now c.args.ahead.now) c.loop-ahead.ahead c.refill.new.self
+    (looked_at c.loop-ahead.self) c.args.source.now c.loop-ahead.source c.refill.new.source (short-looked c.loop-ahead.self short)
+    c.loop-ahead.invariant.asked c.in_ok-refill.ensures.asks
+
+pub returns-clause-asks : goal.returns-clause-asks
+returns-clause-asks g c = c.loop-ahead.invariant.asked

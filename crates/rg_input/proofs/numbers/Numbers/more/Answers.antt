@@ -1,5 +1,6 @@
 use Rattle.std.proofs.Common.{refl, subst}
-use Rattle.rg_input.specs.Numbers.{OnInput, Looks}
+use Rattle.std.specs.Result.{is_err}
+use Rattle.rg_input.specs.Numbers.{AsksFor, OnInput, Looks}
 use Rattle.rg_input.specs.Inner.Held.{pending}
 use Rattle.rg_input.proofs.Holding.{looks-answered, OnInput-read}
 use Rattle.rg_input.proofs.numbers.Numbers.more.Goals as goal
@@ -14,3 +15,9 @@ returns-clause-looks g c =
     subst (λ n. OnInput n new old_left left (Looks c.look_more.result)) c.self.view_is
     (OnInput-read (pending c.self.inside.held c.self.inside.ahead) new new old_left left (Looks c.look_more.result) c.look_more.ensures.reads refl
     (looks-answered h ahead left c.look_more.result c.look_more.ensures.says c.look_more.ensures.whole))
+
+pub returns-clause-asks : goal.returns-clause-asks
+returns-clause-asks g c =
+    let new = pending c.look_more.new.self c.look_more.new.ahead in
+    subst (λ n. AsksFor g.S.Source.replies (is_err c.look_more.result) n new c.args.source.now c.look_more.new.source) c.self.view_is
+    c.look_more.ensures.asks

@@ -1,7 +1,7 @@
-use Rattle.std.proofs.Common.{◌≡◌, ◌∙◌, sym, ap, subst, refl, Ok, Err, to_z, of_z, w64, arith}
+use Rattle.std.proofs.Common.{◌≡◌, ◌∙◌, sym, ap, subst, refl, true, false, Ok, Err, to_z, of_z, w64, arith}
 use Rattle.std.proofs.lemmas.Int.{to_z-of_z}
 use Rattle.rg_input.specs.declared.refusal.NumberRefusal.TheVariants as no
-use Rattle.rg_input.specs.Numbers.{Pending, Refuses, OnInput, Answers}
+use Rattle.rg_input.specs.Numbers.{Pending, AsksFor, Refuses, OnInput, Answers}
 use Rattle.rg_input.specs.Inner.Held.{looked_at, pending, verdict_of}
 use Rattle.rg_input.proofs.Holding.{OnInput-read, found-said, malformed-said, refusal-end}
 use Rattle.rg_input.proofs.numbers.Numbers.next.Goals as goal
@@ -40,3 +40,35 @@ returns-in-Ok-End-clause-refused g c why refused =
     let kept = c.in-Ok-End.ensures.refused why (subst P (sym c.self.view_is) refused) in
     let same : c.in-Ok-End.field-0 ≡ verdict_of why = cc (kept.0) in
     (ap Err (sym (refusal-end why (sym c.in-Ok-End.field-0-is ∙ same))), kept.1 ∙ c.self.view_is)
+
+pub returns-in-Ok-Number-clause-asks : goal.returns-in-Ok-Number-clause-asks
+returns-in-Ok-Number-clause-asks g c =
+    let n = pending c.look.new.self c.look.new.ahead in
+    (n, subst (λ old. AsksFor g.S.Source.replies false old n c.args.source.now c.look.new.source) c.self.view_is c.in-Ok-Number.ensures.asks)
+
+pub returns-in-Ok-Malformed-clause-asks : goal.returns-in-Ok-Malformed-clause-asks
+returns-in-Ok-Malformed-clause-asks g c =
+    let n = pending c.look.new.self c.look.new.ahead in
+    (n, subst (λ old. AsksFor g.S.Source.replies false old n c.args.source.now c.look.new.source) c.self.view_is c.in-Ok-Malformed.ensures.asks)
+
+pub returns-in-Ok-End-clause-asks : goal.returns-in-Ok-End-clause-asks
+returns-in-Ok-End-clause-asks g c =
+    let n = pending c.look.new.self c.look.new.ahead in
+    (n, subst (λ old. AsksFor g.S.Source.replies false old n c.args.source.now c.look.new.source) c.self.view_is c.in-Ok-End.ensures.asks)
+
+pub returns-in-Err-clause-asks : goal.returns-in-Err-clause-asks
+returns-in-Err-clause-asks g c =
+    let n = pending c.look.new.self c.look.new.ahead in
+    (n, subst (λ old. AsksFor g.S.Source.replies true old n c.args.source.now c.look.new.source) c.self.view_is c.in-Err.ensures.asks)
+
+pub returns-in-Ok-Number-clause-quiet : goal.returns-in-Ok-Number-clause-quiet
+returns-in-Ok-Number-clause-quiet g c other = c.in-Ok-Number.ensures.quiet
+
+pub returns-in-Ok-Malformed-clause-quiet : goal.returns-in-Ok-Malformed-clause-quiet
+returns-in-Ok-Malformed-clause-quiet g c other = c.in-Ok-Malformed.ensures.quiet
+
+pub returns-in-Ok-End-clause-quiet : goal.returns-in-Ok-End-clause-quiet
+returns-in-Ok-End-clause-quiet g c other = c.in-Ok-End.ensures.quiet
+
+pub returns-in-Err-clause-quiet : goal.returns-in-Err-clause-quiet
+returns-in-Err-clause-quiet g c other = absurd (other refl)

@@ -12,3 +12,6 @@ returns-clause-gave c =
       drop-moved _ _ _ bytes _ at n (sym (ap (λ s. s.left) c.self.view_is)) left_is (omega arith) c.copy_first.ensures,
       refl,
     )
+
+pub returns-clause-replied : goal.returns-clause-replied
+returns-clause-replied c = (returns-clause-gave c, rw (← c.self.view_is, c.in_ok-count.ensures.passed) refl)

@@ -9,7 +9,7 @@ use Rattle.rg_plain.specs.Machine.{state_of}
 use Rattle.rg_plain.specs.Runs.{IsState}
 use Rattle.rg_plain.proofs.Runs.Dispatch.{left-shown}
 use Rattle.rg_plain.proofs.Runs.Run.{opening, spent}
-use Rattle.rg_plain.proofs.Runs.Count.{ToldOn, begun_next, left_on, told_on}
+use Rattle.rg_plain.proofs.Runs.Count.{ToldOn, begun_next, fault_ends, goes_faultless, left_on, told_on}
 use Rattle.rg_plain.proofs.Runs.Machine.{RanOn, RunOn, UnreadOn, QuietOn}
 use Rattle.rg_plain.proofs.machine.PlainMachine.run_counting.Goals as goal
 
@@ -25,6 +25,7 @@ loop-steps-init g c =
       follows = c.requires.follows;
       within = omega arith;
       source_never_falls = omega arith;
+      source_quiet = refl;
       sink_never_falls = omega arith;
       so_far = OnInput-still _ _ _ _ (RanOn t m 0 m content content) refl refl (λ bytes.
           opening t (state_of t m bytes) content some (Appends-none content));
@@ -59,6 +60,7 @@ loop-steps-preserved g c =
       follows = c.step.ensures.follows;
       within = omega (arith, one, within);
       source_never_falls = omega (arith, c.loop-steps.invariant.source_never_falls, c.step.ensures.never_falls);
+      source_quiet = c.step.ensures.no_fault (goes_faultless o k after between out is) ∙ c.loop-steps.invariant.source_quiet;
       sink_never_falls = omega (arith, c.loop-steps.invariant.sink_never_falls, c.count.ensures.never_falls);
       so_far =
           OnInput-map _ _ _ _ (ToldOn t start c.args.n after new old out None After) (RanOn t start after new old out) turn (λ x z both. both.0);
@@ -80,6 +82,22 @@ returns-in-Some-clause-reads_nothing g c =
     told_on c.args.program.now c.args.self.now c.loop-steps.self c.step.new.self c.args.n k after (g.O.Sink.taken c.args.out.now) between out o
     (Some c.in-Some.ended) _ _ _ _ _ _ Before After within is c.step.ensures.input_fault
     (λ no b. let n = c.step.ensures.reads_nothing no in (n.0 ∙ b.0, n.1 ∙ b.1)) c.loop-steps.invariant.unread c.step.ensures.step
+
+pub returns-in-Some-clause-source_quiet : goal.returns-in-Some-clause-source_quiet
+returns-in-Some-clause-source_quiet g c other =
+    let k = c.loop-steps.steps in
+    let after = c.count.new.steps in
+    let o = c.step.result in
+    let between = g.O.Sink.taken c.loop-steps.out in
+    let out = g.O.Sink.taken c.count.new.out in
+    let is : CountIs o k after between out (Some c.in-Some.ended) =
+    subst (λ (r : Option Ended). CountIs o k after between out r) c.in-Some.is c.count.ensures.is in
+    c.step.ensures.no_fault (λ e.
+    let same : c.in-Some.ended ≡ ended.InputFault = cc (fault_ends o k after between out (Some c.in-Some.ended) is e) in other same)
+    ∙ c.loop-steps.invariant.source_quiet
+
+pub returns-clause-source_quiet : goal.returns-clause-source_quiet
+returns-clause-source_quiet g c other = c.loop-steps.invariant.source_quiet
 
 pub returns-in-Some-clause-run : goal.returns-in-Some-clause-run
 returns-in-Some-clause-run g c =

@@ -12,6 +12,7 @@ invariant-loop-steps g l = record {
   follows : Follows l.input (g.S.Source.left l.source);
   within : l.steps ≤ l.n;
   source_never_falls : g.S.Source.faults l.fn.source ≤ g.S.Source.faults l.source;
+  source_quiet : g.S.Source.faults l.source ≡ g.S.Source.faults l.fn.source;
   sink_never_falls : g.O.Sink.faults l.fn.out ≤ g.O.Sink.faults l.out;
   so_far : OnInput l.fn.input l.input (g.S.Source.left l.fn.source) (g.S.Source.left l.source)
       (RanOn l.program l.fn.self l.steps l.self (g.O.Sink.taken l.fn.out) (g.O.Sink.taken l.out));
