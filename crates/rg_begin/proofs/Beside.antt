@@ -14,7 +14,8 @@ use Rattle.rg_tree.specs.Tree.{Method, Tree}
 use Rattle.rg_code.specs.declared.code.Entry.{Entry}
 use Rattle.rg_cown.specs.declared.cargo.CargoCell.{CargoCell}
 use Rattle.rg_cown.specs.Cargo.{CargoList, label_of as label_in, SoundCargo}
-use Rattle.rg_cown.specs.Loads.{label_from, IsFirst}
+use Rattle.rg_cown.specs.Loads.{IsFirst}
+use Rattle.rg_cown.specs.Cargo.{label_from}
 use Rattle.rg_cown.proofs.GroveLoaded.{first_there}
 use Rattle.rg_cown.proofs.SoundMade.{is_in_true}
 use Rattle.rg_cown.proofs.SoundParts.{HasField, parts_of, no_temp, named_before, label_there, label_within}

@@ -16,7 +16,8 @@ use Rattle.rg_regions.specs.Table.{Record, RegionTable, record_at}
 use Rattle.rg_regions.proofs.Callers.Shares.{has-cases, has_place}
 use Rattle.rg_cown.specs.declared.cargo.CargoCell.{CargoCell}
 use Rattle.rg_cown.specs.Cargo.{CargoList, label_of, regions_named, region_named, SoundCargo}
-use Rattle.rg_cown.specs.Loads.{word_in, label_from, IsFirst, Loaded}
+use Rattle.rg_cown.specs.Loads.{word_in, IsFirst, Loaded}
+use Rattle.rg_cown.specs.Cargo.{label_from}
 use Rattle.rg_cown.proofs.GroveLoaded.{there_is, first_there}
 use Rattle.rg_cown.proofs.SoundParts.{parts_of, count_is, between, less_or_not, named_new, in_range}
 use Rattle.rg_heap.specs.Answers.{val_of, obj_of, AllLead}

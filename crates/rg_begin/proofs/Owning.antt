@@ -21,13 +21,15 @@ use Rattle.rg_regions.proofs.Callers.Told.{labelled_held, led_held, number_of, r
 use Rattle.rg_frames.specs.Stack.{Stack}
 use Rattle.rg_cown.specs.declared.cargo.CargoCell.{CargoCell}
 use Rattle.rg_cown.specs.Cargo.{CargoList, label_of, SoundCargo}
-use Rattle.rg_cown.specs.Loads.{word_in, label_from, Loaded}
+use Rattle.rg_cown.specs.Loads.{word_in, Loaded}
+use Rattle.rg_cown.specs.Cargo.{label_from}
 use Rattle.rg_cown.proofs.GroveLoaded.{led_by_object}
 use Rattle.rg_cown.proofs.SoundMade.{is_in_true}
 use Rattle.rg_cown.proofs.SoundParts.{HasField, parts_of, in_range, no_temp, no_entry, label_there}
 use Rattle.rg_heap.specs.Parts.{Parts}
 use Rattle.rg_heap.specs.Answers.{val_of, AllLead}
-use Rattle.rg_heap.specs.Writes.{Comes, InActive, LeadsOut, Ownerless, IsTemp}
+use Rattle.rg_heap.specs.Writes.{Comes, InActive, LeadsOut, Ownerless}
+use Rattle.rg_heap.specs.Ends.{IsTemp}
 use Rattle.rg_opening.specs.declared.given.Given.{Given}
 use Rattle.rg_opening.specs.declared.given.Given.TheVariants.{Start, Held}
 use Rattle.rg_opening.specs.Opening.{object_from, field_values, content_objects, content_managers}

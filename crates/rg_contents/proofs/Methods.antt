@@ -5,7 +5,7 @@ use Rattle.std.proofs.Common.{length, filter_map, find, Option, None, Some, opti
 use Rattle.std.proofs.lemmas.Option.{same_Some}
 use Rattle.rg_tree.specs.Tree.{Name, Method, Class}
 use Rattle.rg_rules.specs.Types.{method_member, methods_of, method_named}
-use Rattle.rg_names.specs.TreeAnswers.{first_place, methods_before, method_number as place_of_method}
+use Rattle.rg_names.specs.MethodNumbers.{first_place, methods_before, method_number as place_of_method}
 use Rattle.rg_code.specs.Lowering.{method_place, method_number}
 use Rattle.rg_code.proofs.Method.{methods_among-is}
 use Rattle.rg_sched_atomic.specs.Behaviours.{all_methods}

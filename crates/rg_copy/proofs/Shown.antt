@@ -5,7 +5,8 @@ use Rattle.std.proofs.lemmas.Option.{slice_get-get_or}
 use Rattle.rg_base.specs.declared.value.Word.{Word}
 use Rattle.rg_base.specs.declared.value.Word.TheVariants.{Nil, Int, Bool as Truth, Slot}
 use Rattle.rg_frames.specs.declared.rows.Window.{Window}
-use Rattle.rg_frames.specs.Stack.{Stack, Begun, IsTop, IsShown, with_shown}
+use Rattle.rg_frames.specs.Stack.{Stack, IsTop}
+use Rattle.rg_frames.specs.Changes.{Begun, IsShown, with_shown}
 use Rattle.rg_copy.specs.Slid.{base_of}
 use Rattle.rg_copy.specs.Inner.Moves.{moved_word, changed_from, ForwardsSlots}
 use Rattle.rg_copy.proofs.Words.{from-get, from-set, from-skip, from-length}

@@ -10,7 +10,7 @@ ghost use Rattle.rg_copy.specs.Inner.Moves.{target, moved_word, Forwards, Member
 ghost use Rattle.rg_copy.specs.Inner.Moves.{TempsClean, TempsForwarded, TempsMarked, Cleared};
 ghost use Rattle.rg_copy.specs.Inner.Moves.{ForwardsSlots, IsTempAt};
 ghost use Rattle.rg_copy.specs.Slid.{top_slots};
-ghost use Rattle.rg_frames.specs.Stack.{Begun};
+ghost use Rattle.rg_frames.specs.Changes.{Begun};
 
 use rg_base::{Label, Steps, Word};
 use rg_cells::Cells;

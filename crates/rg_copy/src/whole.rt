@@ -3,7 +3,7 @@
 
 ghost use Rattle.std.specs.Prelude.{◌≡◌, ◌+◌, ◌*◌, ◌≤◌, length, sum_by};
 ghost use Rattle.rg_cells.specs.Table.{body_at, width};
-ghost use Rattle.rg_frames.specs.Stack.{Begun};
+ghost use Rattle.rg_frames.specs.Changes.{Begun};
 ghost use Rattle.rg_regions.specs.Grove.{Grove};
 ghost use Rattle.rg_regions.specs.Collection.{HasManager, WordsLeadToHeld, AllHeld};
 ghost use Rattle.rg_regions.specs.Collection.{TempsLeadToHeld, OfRegion, ChainsOrphans};

@@ -4,7 +4,8 @@ use Rattle.rg_base.specs.declared.value.Word.{Word}
 use Rattle.rg_base.specs.declared.value.Word.TheVariants.{Nil}
 use Rattle.rg_frames.specs.declared.rows.Frame.{Frame}
 use Rattle.rg_frames.specs.declared.rows.Window.{Window}
-use Rattle.rg_frames.specs.Stack.{Stack, IsEmpty, begun, pushed, roomed}
+use Rattle.rg_frames.specs.Stack.{Stack, IsEmpty}
+use Rattle.rg_frames.specs.Changes.{begun, pushed, roomed}
 
 pub empty-roomed : (v : Stack) (a b : ℕ) → IsEmpty v → IsEmpty (roomed v a b)
 empty-roomed v a b e = record {

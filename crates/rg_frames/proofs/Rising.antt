@@ -4,7 +4,8 @@ use Rattle.std.proofs.Common.{slice_get, get_or, refl, sym, ap, ◌∙◌, arith
 use Rattle.std.proofs.lemmas.Option.{slice_get_within, slice_get-get_or, same_Some}
 use Rattle.std.proofs.lemmas.List.{length-take-le}
 use Rattle.rg_frames.specs.declared.rows.Window.{Window}
-use Rattle.rg_frames.specs.Stack.{BasesRise, Stack, IsTop}
+use Rattle.rg_frames.specs.Stack.{Stack, IsTop}
+use Rattle.rg_frames.specs.Changes.{BasesRise}
 use Rattle.rg_frames.specs.Inner.Layout.{Rises, Lies}
 
 -- an element of a longer list is one of the list, or the new one

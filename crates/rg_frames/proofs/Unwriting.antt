@@ -8,7 +8,8 @@ use Rattle.rg_base.specs.declared.value.Word.{Word}
 use Rattle.rg_base.specs.declared.value.Word.TheVariants.{Nil}
 use Rattle.rg_frames.specs.declared.rows.Frame.{Frame}
 use Rattle.rg_frames.specs.declared.rows.Window.{Window}
-use Rattle.rg_frames.specs.Stack.{Stack, IsTop, ended, popped, pushed, pushed_of, mark}
+use Rattle.rg_frames.specs.Stack.{Stack, IsTop, mark}
+use Rattle.rg_frames.specs.Changes.{ended, popped, pushed, pushed_of}
 use Rattle.rg_frames.specs.Inner.Layout.{NilFrom, Unwritten, Lies}
 use Rattle.rg_frames.proofs.Rising.{From, old, last, got-append, got-take}
 

@@ -15,7 +15,8 @@ use Rattle.rg_regions.proofs.Callers.Told.{field_within, one_region, record_ther
 use Rattle.rg_regions.proofs.Callers.Fewer.{above_by, parent_by}
 use Rattle.rg_regions.proofs.Callers.Changed.{changed_at, changed_other}
 use Rattle.rg_frames.specs.Stack.{Stack}
-use Rattle.rg_heap.specs.Writes.{Comes, InActive, IsTemp, Ownerless}
+use Rattle.rg_heap.specs.Writes.{Comes, InActive, Ownerless}
+use Rattle.rg_heap.specs.Ends.{IsTemp}
 use Rattle.rg_heap.proofs.Fields.{field_now, field_was, label_same, with_twice}
 use Rattle.rg_heap.proofs.Marked.{field_there, grove_swapped}
 

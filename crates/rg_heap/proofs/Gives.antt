@@ -20,7 +20,7 @@ use Rattle.rg_frames.specs.declared.rows.Window.{Window}
 use Rattle.rg_frames.specs.Stack.{Stack, IsTop, mark}
 use Rattle.rg_heap.specs.Parts.{Parts}
 use Rattle.rg_heap.specs.Answers.{IsClosed}
-use Rattle.rg_heap.specs.Writes.{IsTemp}
+use Rattle.rg_heap.specs.Ends.{IsTemp}
 use Rattle.rg_heap.specs.Ends.{CanLeave, GoesAlong, IsTopTemp, Released, top_temps}
 use Rattle.rg_heap.specs.Opened.{IsTempOf, IsWindow, Opened}
 use Rattle.rg_heap.specs.Gives.{CanBecome, CanGive, IsNear, IsOwner, IsPlace, OwnerAlone, Puts, beneath}

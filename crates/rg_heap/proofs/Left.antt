@@ -19,7 +19,7 @@ use Rattle.rg_release.specs.Released.{Unowned, BelowOne}
 use Rattle.rg_frames.specs.Stack.{Stack}
 use Rattle.rg_heap.specs.Parts.{Parts}
 use Rattle.rg_heap.specs.Answers.{IsClosed}
-use Rattle.rg_heap.specs.Writes.{IsTemp}
+use Rattle.rg_heap.specs.Ends.{IsTemp}
 use Rattle.rg_heap.specs.Ends.{Released, CanLeave, GoesAlong, OwnedByOne, IsTopTemp, NoCell, top_temps}
 use Rattle.rg_heap.specs.Inner.Chains.{Chains, ChainsCells, FirstFreed, Gone, OwnedBefore, OwnsOnce}
 use Rattle.rg_heap.proofs.OwnedChained.{number_on}

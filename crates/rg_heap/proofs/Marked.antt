@@ -20,7 +20,8 @@ use Rattle.rg_regions.proofs.Callers.Fewer.{belongs_not, lies_belongs}
 use Rattle.rg_count.proofs.Written.{count-fits, referrers-written}
 use Rattle.rg_frames.specs.declared.rows.Window.{Window}
 use Rattle.rg_frames.specs.Stack.{Stack, IsTop}
-use Rattle.rg_heap.specs.Writes.{Stays, Comes, LeadsOut, InActive, IsTemp, IsCounting, counted}
+use Rattle.rg_heap.specs.Writes.{Stays, Comes, LeadsOut, InActive, IsCounting, counted}
+use Rattle.rg_heap.specs.Ends.{IsTemp}
 use Rattle.rg_heap.proofs.Readers.{one_top}
 use Rattle.rg_heap.specs.Inner.Marks.{LeadsNowhere, MayWrite, Recounts, leads_once}
 use Rattle.rg_heap.proofs.Written.{grove_written}

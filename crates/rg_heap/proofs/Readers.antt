@@ -21,7 +21,8 @@ use Rattle.rg_regions.specs.Table.{Record, RegionTable, record_at, HasNumber}
 use Rattle.rg_frames.specs.declared.rows.Window.{Window}
 use Rattle.rg_frames.specs.Stack.{Stack, IsTop}
 use Rattle.rg_heap.specs.Parts.{Parts}
-use Rattle.rg_heap.specs.Answers.{Tells, AllLead, IsClosed, LeadsIntoClosed, fields_of}
+use Rattle.rg_heap.specs.Answers.{AllLead, IsClosed}
+use Rattle.rg_heap.specs.Reads.{Tells, LeadsIntoClosed, fields_of}
 use Rattle.rg_heap.proofs.Callers.Opens.{open_not_closed}
 
 -- one window is on top

@@ -3,14 +3,14 @@ use Rattle.std.specs.Prelude.{◌≡◌, ℕ, true, drop, List, Some, None, slic
 use Rattle.std.specs.List.{list_any}
 use Rattle.rg_base.specs.declared.value.Word.{Word}
 use Rattle.rg_base.specs.declared.value.Word.TheVariants.{Nil, Int, Bool as Truth, Slot}
-use Rattle.rg_cells.specs.Table.{Heap, body_at, field_at, high_of}
+use Rattle.rg_base.specs.declared.object.Label.TheVariants.{Temp}
+use Rattle.rg_cells.specs.Table.{Heap, body_at, label_at, field_at, high_of}
 use Rattle.rg_regions.specs.Table.{RegionTable, record_at, HasNumber}
 use Rattle.rg_regions.specs.Reach.{LiesIn}
 use Rattle.rg_regions.specs.Grove.{Below}
 use Rattle.rg_frames.specs.Stack.{Stack, has_region, mark}
 use Rattle.rg_heap.specs.Parts.{Parts}
 use Rattle.rg_heap.specs.Answers.{AllLead, IsClosed}
-use Rattle.rg_heap.specs.Writes.{IsTemp}
 
 -- nil, or a cell of a region
 abbrev pub CanEnter : Heap → Word → Type 0
@@ -69,6 +69,10 @@ abbrev pub OneOutside : Parts → Stack → Type 0
 OneOutside p v = (q s k to s₂ k₂ to₂ : ℕ) → IsClosed p.regions v q →
     (LiesIn p.cells.heap q s → ⊥) → field_at p.cells.heap s k ≡ Some (Slot to) → LiesIn p.cells.heap q to →
     (LiesIn p.cells.heap q s₂ → ⊥) → field_at p.cells.heap s₂ k₂ ≡ Some (Slot to₂) → LiesIn p.cells.heap q to₂ → (s ≡ s₂) × (k ≡ k₂)
+
+-- the cell at a slot is a temporary
+abbrev pub IsTemp : Heap → (slot : ℕ) → Type 0
+IsTemp h slot = (n : ℕ) × (label_at h slot ≡ Some (Temp n))
 
 -- What leaving a window asks for: region 0 is open; the top window's temporaries are held cells with such a label, each once, whose
 -- references lead to held cells; and into a closed region at most one field of the cells outside it leads.

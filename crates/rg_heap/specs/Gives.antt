@@ -10,7 +10,8 @@ use Rattle.rg_cells.specs.Table.{Heap, HasSerial, field_at, with_field}
 use Rattle.rg_regions.specs.Table.{HasNumber, IsBridge, changed, with_bridge}
 use Rattle.rg_regions.specs.Reach.{LiesIn}
 use Rattle.rg_regions.specs.Grove.{Grove}
-use Rattle.rg_frames.specs.Stack.{Stack, InTop, closed, with_slot, without_temps}
+use Rattle.rg_frames.specs.Stack.{Stack}
+use Rattle.rg_frames.specs.Changes.{InTop, closed, with_slot, without_temps}
 use Rattle.rg_heap.specs.Parts.{Parts, OnTop}
 use Rattle.rg_heap.specs.Writes.{InActive}
 use Rattle.rg_heap.specs.Ends.{GoesAlong, IsTopTemp, Released}

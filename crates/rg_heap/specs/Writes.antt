@@ -1,7 +1,7 @@
 -- What may be written into a field, and what a write does to marks (docs/architecture.md, "The heap").
 use Rattle.std.specs.Prelude.{◌≡◌, ◌≢◌, ℕ, ◌⊎◌, cond, Some}
 use Rattle.rg_base.specs.declared.words.Manager.TheVariants.{Count}
-use Rattle.rg_base.specs.declared.object.Label.TheVariants.{Temp, Frozen}
+use Rattle.rg_base.specs.declared.object.Label.TheVariants.{Frozen}
 use Rattle.rg_base.specs.declared.value.Word.{Word}
 use Rattle.rg_base.specs.declared.value.Word.TheVariants.{Slot}
 use Rattle.rg_cells.specs.Table.{Heap, body_at, label_at, field_at}
@@ -25,10 +25,6 @@ pub record Ownerless (h : Heap) (t : RegionTable) (region slot : ℕ) : Type 0 w
 -- a word that isn't a reference, or that leads to the bridge of another region without an owner, not above this one
 abbrev pub Comes : Heap → RegionTable → (region : ℕ) → Word → Type 0
 Comes h t r w = (to : ℕ) → w ≡ Slot to → (q : ℕ) × Ownerless h t q to × (q ≢ r) × (Above h q r → ⊥)
-
--- the cell at a slot is a temporary
-abbrev pub IsTemp : Heap → (slot : ℕ) → Type 0
-IsTemp h slot = (n : ℕ) × (label_at h slot ≡ Some (Temp n))
 
 -- the cell at a slot lies in the active region, where this holds of the region's number
 abbrev pub InActive : Heap → RegionTable → Stack → (slot : ℕ) → ((number : ℕ) → Type 0) → Type 0

@@ -6,7 +6,7 @@ ghost use Rattle.rg_cells.specs.Table.{IsHeld, body_at, width};
 ghost use Rattle.rg_regions.specs.Table.{Chained};
 ghost use Rattle.rg_release.specs.Released.{Unowned};
 ghost use Rattle.rg_regions.specs.Grove.{Grove};
-ghost use Rattle.rg_frames.specs.Stack.{Begun};
+ghost use Rattle.rg_frames.specs.Changes.{Begun};
 ghost use Rattle.rg_heap.specs.Answers.{AllLead};
 ghost use Rattle.rg_heap.specs.Ends.{CanLeave, GoesAlong, IsTopTemp, Released};
 ghost use Rattle.rg_heap.specs.Inner.Chains.{AllInTable, ChainsCells, ChainsFields, FirstFreed};

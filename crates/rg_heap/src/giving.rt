@@ -5,7 +5,7 @@ ghost use Rattle.rg_cells.specs.Table.{HasSerial};
 ghost use Rattle.rg_regions.specs.Table.{IsKey};
 ghost use Rattle.rg_regions.specs.Collection.{AllHeld};
 ghost use Rattle.rg_regions.specs.Grove.{Grove};
-ghost use Rattle.rg_frames.specs.Stack.{Begun};
+ghost use Rattle.rg_frames.specs.Changes.{Begun};
 ghost use Rattle.rg_heap.specs.Parts.{OnTop};
 ghost use Rattle.rg_heap.specs.Ends.{top_temps};
 ghost use Rattle.rg_heap.specs.Gives.{IsNear, Puts};

@@ -10,12 +10,13 @@ ghost use Rattle.rg_cells.specs.Table.{Serials, high_of, high_after};
 ghost use Rattle.rg_regions.specs.Reach.{LiesIn};
 ghost use Rattle.rg_regions.specs.Table.{IsKey, Added, HasNumber, fresh};
 ghost use Rattle.rg_regions.specs.Grove.{Below, Grove};
-ghost use Rattle.rg_frames.specs.Stack.{BaseUpTo, Begun, closed, opened, with_temp};
-ghost use Rattle.rg_frames.specs.Stack.{without_temps};
+ghost use Rattle.rg_frames.specs.Changes.{BaseUpTo, Begun, closed, opened, with_temp};
+ghost use Rattle.rg_frames.specs.Changes.{without_temps};
 ghost use Rattle.rg_heap.specs.Parts.{OnTop};
 ghost use Rattle.rg_heap.specs.Changes.{LeadsNowhere, OnActive, Makes, SameCells, SameRecords};
 ghost use Rattle.rg_heap.specs.Changes.{Rewritten, OpensOne, as_it_is, with_one};
-ghost use Rattle.rg_heap.specs.Writes.{Comes, InActive, IsTemp, LeadsOut, Ownerless, Stays};
+ghost use Rattle.rg_heap.specs.Writes.{Comes, InActive, LeadsOut, Ownerless, Stays};
+ghost use Rattle.rg_heap.specs.Ends.{IsTemp};
 ghost use Rattle.rg_heap.specs.Ends.{CanEnter, CanLeave, GoesAlong, IsTopTemp, NoCell};
 ghost use Rattle.rg_heap.specs.Ends.{OnRegion, OnSlot, Released, top_temps};
 ghost use Rattle.rg_regions.specs.Collection.{AllHeld, TempsLeadToHeld, WordsLeadToHeld};
@@ -23,8 +24,9 @@ ghost use Rattle.rg_regions.specs.Collection.{OfRegion, region_fields, roots_of}
 ghost use Rattle.rg_heap.specs.Collects.{CollectsBy};
 ghost use Rattle.rg_heap.specs.Slides.{SlidesBy};
 ghost use Rattle.rg_heap.specs.Moves.{BridgeOrNil, CanMove, Freezes, Merges, NotBeneath};
-ghost use Rattle.rg_heap.specs.Answers.{CanRead, Reads, AllLead, Shows, end_numbers, Tells};
-ghost use Rattle.rg_heap.specs.Answers.{LeadsIntoClosed};
+ghost use Rattle.rg_heap.specs.Answers.{AllLead, end_numbers};
+ghost use Rattle.rg_heap.specs.Reads.{CanRead, Reads, Shows, Tells};
+ghost use Rattle.rg_heap.specs.Reads.{LeadsIntoClosed};
 
 mod cargo;
 mod giving;

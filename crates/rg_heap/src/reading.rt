@@ -4,7 +4,8 @@ ghost use Rattle.std.specs.Prelude.{◌≡◌, ℕ, Some, None, IfSome, IfOk};
 ghost use Rattle.rg_cells.specs.Table.{IsHeld};
 ghost use Rattle.rg_regions.specs.Table.{HasNumber};
 ghost use Rattle.rg_regions.specs.Reach.{LiesIn};
-ghost use Rattle.rg_heap.specs.Answers.{val_of, AllLead, shown_fields};
+ghost use Rattle.rg_heap.specs.Answers.{val_of, AllLead};
+ghost use Rattle.rg_heap.specs.Reads.{shown_fields};
 ghost use Rattle.rg_heap.specs.Inner.Chains.{AllInTable};
 
 use rg_base::{Label, Memory, Val, Vals, Word};

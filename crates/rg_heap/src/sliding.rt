@@ -4,7 +4,7 @@
 ghost use Rattle.std.specs.Prelude.{◌≡◌, ◌+◌, ◌*◌, ◌≤◌, Some, sum_by};
 ghost use Rattle.rg_base.specs.declared.words.Manager.TheVariants.{Trace};
 ghost use Rattle.rg_cells.specs.Table.{body_at, width};
-ghost use Rattle.rg_frames.specs.Stack.{Begun};
+ghost use Rattle.rg_frames.specs.Changes.{Begun};
 ghost use Rattle.rg_regions.specs.Table.{IsKey};
 ghost use Rattle.rg_regions.specs.Collection.{HasManager, WordsLeadToHeld, AllHeld};
 ghost use Rattle.rg_regions.specs.Collection.{TempsLeadToHeld, OfRegion, region_fields};

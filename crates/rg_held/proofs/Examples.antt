@@ -13,7 +13,8 @@ use Rattle.rg_code.specs.declared.op.Op.{Op}
 use Rattle.rg_code.specs.declared.op.Op.TheVariants as i
 use Rattle.rg_code.specs.Code.{empty}
 use Rattle.rg_stack.specs.Machine.{Frame, Window}
-use Rattle.rg_stack.specs.Effects.{Work, Walked, Returns}
+use Rattle.rg_stack.specs.Effects.{Walked, Returns}
+use Rattle.rg_stack.specs.Tops.{Work}
 use Rattle.rg_held.specs.Frees.{free_act}
 use Rattle.rg_held.specs.Gone.{gone}
 

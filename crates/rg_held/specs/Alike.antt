@@ -1,7 +1,7 @@
 -- What two machines work on, one of which frees (docs/architecture.md, "The machine that frees").
 use Rattle.std.specs.Prelude.{◌≡◌, ℕ, Bool as Truth, List}
 use Rattle.rg_base.specs.declared.value.Val.{Val}
-use Rattle.rg_stack.specs.Effects.{Work}
+use Rattle.rg_stack.specs.Tops.{Work}
 use Rattle.rg_held.specs.Part.{Part}
 
 -- what the two work on

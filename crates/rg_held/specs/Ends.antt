@@ -1,7 +1,8 @@
 -- Walks, steps and runs of the machine that frees end as those over the growing store do (docs/architecture.md, "The machine that frees").
 use Rattle.std.specs.Prelude.{◌≡◌, ℕ, Bool as Truth, List, []}
 use Rattle.rg_base.specs.declared.value.Val.{Val}
-use Rattle.rg_stack.specs.Effects.{Work, Walked, Stops, Returns, Traps, Stuck}
+use Rattle.rg_stack.specs.Effects.{Walked, Stops, Returns, Traps, Stuck}
+use Rattle.rg_stack.specs.Tops.{Work}
 use Rattle.rg_stack.specs.Runs.{Stepped, Goes, Ends, Trapped, Lost, Ran}
 use Rattle.rg_held.specs.Alike.{Alike}
 

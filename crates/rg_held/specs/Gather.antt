@@ -12,8 +12,8 @@ use Rattle.rg_tree.specs.Tree.{Tree}
 use Rattle.rg_sound.specs.Fit.{Fit}
 use Rattle.rg_code.specs.Code.{Code}
 use Rattle.rg_stack.specs.Machine.{Frame, Window, Machine, place_of}
-use Rattle.rg_stack.specs.Effects.{top_region, top_window}
-use Rattle.rg_stack.specs.Needs.{top_base, value_at}
+use Rattle.rg_stack.specs.Tops.{top_region, top_window}
+use Rattle.rg_stack.specs.Places.{top_base, value_at}
 use Rattle.rg_stack.specs.Shows.{Shows}
 use Rattle.rg_held.specs.Gone.{gone}
 use Rattle.rg_held.specs.Part.{Part}

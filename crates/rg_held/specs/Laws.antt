@@ -9,7 +9,8 @@ use Rattle.rg_sound.specs.Fit.{Fit}
 use Rattle.rg_code.specs.declared.op.Op.{Op}
 use Rattle.rg_code.specs.Code.{Code}
 use Rattle.rg_code.specs.Lowering.{Lowers}
-use Rattle.rg_stack.specs.Effects.{Work, Go, act}
+use Rattle.rg_stack.specs.Effects.{Go, act}
+use Rattle.rg_stack.specs.Tops.{Work}
 use Rattle.rg_stack.specs.Runs.{Lost, step, coded}
 use Rattle.rg_stack.specs.Simulates.{Holds}
 use Rattle.rg_stack.specs.Left.{SomeLeft}

@@ -21,7 +21,7 @@ use Rattle.rg_code.specs.Code.{Code}
 use Rattle.rg_code.specs.Dues.{due_at}
 use Rattle.rg_regions.specs.Table.{InTable}
 use Rattle.rg_heap.specs.declared.answers.Active.{Active}
-use Rattle.rg_stack.specs.Effects.{top_region}
+use Rattle.rg_stack.specs.Tops.{top_region}
 use Rattle.rg_stack.specs.Machine.{Machine}
 use Rattle.rg_held.specs.Gather.{Gathered, LinkOut, Loses, first, further}
 use Rattle.rg_held.specs.Gone.{gone}

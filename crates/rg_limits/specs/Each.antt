@@ -1,6 +1,6 @@
 -- The expressions of a statement, and what holds of each statement of a program (docs/language.md, "Limits").
 use Rattle.std.specs.Prelude.{⊤, All, List, [], ◌∷◌, option_to_list}
-use Rattle.rg_tree.specs.Tree.{Expr, Right, value, new, new_tmp, new_iso, freeze, merge, read, more, result_of}
+use Rattle.rg_tree.specs.Tree.{Expr, Right, value, new, new_tmp, new_iso, result_of}
 use Rattle.rg_tree.specs.Tree.{stmt, StmtKind, declare, assign, assign_element, call, swap, branch, while, enter, print, collect, return}
 use Rattle.rg_tree.specs.Tree.{Else, no_else, otherwise, Block, empty, then as next, Member, field, method, Class, Tree}
 
@@ -10,11 +10,8 @@ right_exprs (value e) = e ∷ []
 right_exprs (new n size) = option_to_list size
 right_exprs (new_tmp n size) = option_to_list size
 right_exprs (new_iso n size m) = option_to_list size
-right_exprs (freeze y) = []
-right_exprs (merge y) = []
-right_exprs read = []
-right_exprs more = []
 right_exprs (result_of c) = c.args
+right_exprs r = []
 
 -- the expressions of a statement, without those of the statements in its blocks
 abbrev pub own_exprs : StmtKind → List Expr

@@ -2,21 +2,17 @@
 use Rattle.std.specs.Prelude.{◌≤◌, ⊤, unsigned_abs}
 use Rattle.std.specs.List.{AllByRecursion}
 use Rattle.rg_base.specs.declared.limits.TheConstants.{GREATEST_NUMBER}
-use Rattle.rg_tree.specs.Tree.{Expr, number, boolean, nil, path, is_nil, neg, not, binary, size, element, StmtKind, Tree}
+use Rattle.rg_tree.specs.Tree.{Expr, number, neg, not, binary, element, StmtKind, Tree}
 use Rattle.rg_limits.specs.Each.{own_exprs, HoldsOfEach}
 
 -- The digits of each number in an expression are no greater number than a source can write. A number below 0 has them behind a minus.
 abbrev pub HasSmall : Expr → Type 0
 HasSmall (number z) = unsigned_abs z ≤ GREATEST_NUMBER
-HasSmall (boolean b) = ⊤
-HasSmall nil = ⊤
-HasSmall (path q) = ⊤
-HasSmall (is_nil q) = ⊤
 HasSmall (neg a) = HasSmall a
 HasSmall (not a) = HasSmall a
 HasSmall (binary op a b) = HasSmall a × HasSmall b
-HasSmall (size q) = ⊤
 HasSmall (element q e) = HasSmall e
+HasSmall e = ⊤
 
 -- so it is in a statement, those in its blocks aside
 abbrev pub HasOwnSmall : StmtKind → Type 0

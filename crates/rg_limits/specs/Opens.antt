@@ -1,8 +1,8 @@
 -- How many brackets are open together at most in the canonical text of a program, by its parts (docs/language.md, "Limits"). Where no name has one,
 -- these are as many as its text opens (the law `OpensAreBrackets`).
 use Rattle.std.specs.Prelude.{ℕ, suc, max, nat_lt, Bool, true, false, List, [], ◌∷◌, Option, Some, None}
-use Rattle.rg_tree.specs.Tree.{Expr, number, boolean, nil, path, is_nil, neg, not, binary, size, element, Call}
-use Rattle.rg_tree.specs.Tree.{Right, value, new, new_tmp, new_iso, freeze, merge, read, more, result_of}
+use Rattle.rg_tree.specs.Tree.{Expr, neg, not, binary, element, Call}
+use Rattle.rg_tree.specs.Tree.{Right, value, new, new_tmp, new_iso, result_of}
 use Rattle.rg_tree.specs.Tree.{stmt, StmtKind, declare, assign, assign_element, call, swap, branch, while, enter, print, collect, return}
 use Rattle.rg_tree.specs.Tree.{Else, no_else, otherwise, Block, empty, then as next, Member, field, method, Class, Tree}
 use Rattle.rg_tree.specs.Canonical.{level, left_level, right_level}
@@ -13,17 +13,12 @@ parens_opens true n = suc n
 parens_opens false n = n
 
 abbrev pub expr_opens : Expr → ℕ
-expr_opens (number z) = 0
-expr_opens (boolean b) = 0
-expr_opens nil = 0
-expr_opens (path q) = 0
-expr_opens (is_nil q) = 0
 expr_opens (neg a) = parens_opens (nat_lt (level a) 7) (expr_opens a)
 expr_opens (not a) = parens_opens (nat_lt (level a) 3) (expr_opens a)
 expr_opens (binary op a b) =
     max (parens_opens (nat_lt (level a) (left_level op)) (expr_opens a)) (parens_opens (nat_lt (level b) (right_level op)) (expr_opens b))
-expr_opens (size q) = 0
 expr_opens (element q e) = suc (expr_opens e)
+expr_opens e = 0
 
 abbrev pub exprs_opens : List Expr → ℕ
 exprs_opens [] = 0
@@ -42,11 +37,8 @@ right_opens (value e) = expr_opens e
 right_opens (new n o) = index_opens o
 right_opens (new_tmp n o) = index_opens o
 right_opens (new_iso n o m) = index_opens o
-right_opens (freeze y) = 0
-right_opens (merge y) = 0
-right_opens read = 0
-right_opens more = 0
 right_opens (result_of c) = call_opens c
+right_opens r = 0
 
 abbrev mutual
   pub kind_opens : StmtKind → ℕ

@@ -1,21 +1,16 @@
 -- How many signs of two operands, `and` and `or` a statement has (docs/language.md, "Limits").
 use Rattle.std.specs.Prelude.{ℕ, suc, ◌+◌, ◌≤◌, List, [], ◌∷◌}
 use Rattle.rg_base.specs.declared.limits.TheConstants.{STATEMENT_SIGNS}
-use Rattle.rg_tree.specs.Tree.{Expr, number, boolean, nil, path, is_nil, neg, not, binary, size, element, StmtKind, Tree}
+use Rattle.rg_tree.specs.Tree.{Expr, neg, not, binary, element, StmtKind, Tree}
 use Rattle.rg_limits.specs.Each.{own_exprs, HoldsOfEach}
 
 -- those of an expression: `not`, `is` and the `-` of one operand are none
 abbrev pub expr_signs : Expr → ℕ
-expr_signs (number z) = 0
-expr_signs (boolean b) = 0
-expr_signs nil = 0
-expr_signs (path q) = 0
-expr_signs (is_nil q) = 0
 expr_signs (neg a) = expr_signs a
 expr_signs (not a) = expr_signs a
 expr_signs (binary op a b) = suc (expr_signs a + expr_signs b)
-expr_signs (size q) = 0
 expr_signs (element q e) = expr_signs e
+expr_signs e = 0
 
 -- those of expressions
 abbrev pub exprs_signs : List Expr → ℕ

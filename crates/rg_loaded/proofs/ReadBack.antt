@@ -15,7 +15,7 @@ use Rattle.rg_base.specs.declared.value.Val.TheVariants.{Nil, Int, Bool, Obj}
 use Rattle.rg_cown.specs.declared.cargo.CargoCell.{CargoCell}
 use Rattle.rg_cown.specs.Cargo.{CargoList, SoundCargo, named, named_in, named_from, region_named, regions_named}
 use Rattle.rg_cown.specs.Contents.{Reading, all_met, new_fields, region_met, new_label, with_object, read_on, from_object, no_object}
-use Rattle.rg_cown.specs.Loads.{label_from}
+use Rattle.rg_cown.specs.Cargo.{label_from}
 use Rattle.rg_cown.proofs.SoundParts.{less_or_not, between, parts_of, count_is}
 use Rattle.rg_loaded.proofs.Following.{number-at, named-met}
 

@@ -17,7 +17,8 @@ use Rattle.rg_regions.proofs.Callers.Shares.{has_place, distinct_by, share, sum-
 use Rattle.rg_cown.specs.declared.cargo.CargoCell.{CargoCell}
 use Rattle.rg_cown.specs.Cargo.{CargoList, SoundCargo}
 use Rattle.rg_cown.specs.Contents.{Reading, read_on, from_object, by_slot, seen_in, manager_in, cargo_at}
-use Rattle.rg_cown.specs.Loads.{word_in, label_from, Loaded}
+use Rattle.rg_cown.specs.Loads.{word_in, Loaded}
+use Rattle.rg_cown.specs.Cargo.{label_from}
 use Rattle.rg_cown.proofs.GroveLoaded.{there_is}
 use Rattle.rg_cown.proofs.Renamed.{Renames, other_value, other_object, other_reading, reading_on}
 use Rattle.rg_cown.proofs.SoundParts.{in_range}

@@ -3,7 +3,8 @@ use Rattle.std.proofs.Common.{◌≡◌, refl, ap, ◌∙◌, ℕ, zero, suc, �
 use Rattle.std.proofs.Common.{filter_map, Option, None, Some, option_map, arith}
 use Rattle.rg_tree.specs.Tree.{Name, Method, Class}
 use Rattle.rg_rules.specs.Types.{class_number, class_named, method_member, methods_of, method_named, method_result}
-use Rattle.rg_names.specs.TreeAnswers.{class_place, first_place, methods_before, method_number as place_of_method}
+use Rattle.rg_names.specs.TreeAnswers.{class_place}
+use Rattle.rg_names.specs.MethodNumbers.{first_place, methods_before, method_number as place_of_method}
 use Rattle.rg_tree.specs.Rows.Tables.{Tables, name_at}
 use Rattle.rg_tree.specs.Rows.RowTrees.{classes_of}
 use Rattle.rg_names.specs.declared.entry.Sig.{Sig}

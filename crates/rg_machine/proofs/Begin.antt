@@ -14,7 +14,8 @@ use Rattle.rg_cells.specs.declared.cell.Body.{Body}
 use Rattle.rg_cells.specs.Table.{Heap, body_in, label_at}
 use Rattle.rg_regions.specs.Table.{Record, RegionTable, Added, fresh, record_at, HasNumber}
 use Rattle.rg_frames.specs.declared.rows.Window.{Window}
-use Rattle.rg_frames.specs.Stack.{Stack, begun, roomed}
+use Rattle.rg_frames.specs.Stack.{Stack}
+use Rattle.rg_frames.specs.Changes.{begun, roomed}
 use Rattle.rg_stack.specs.Machine.{Frame, Window as WindowOf}
 use Rattle.rg_heap.specs.Parts.{Parts}
 use Rattle.rg_heap.specs.Answers.{val_of}

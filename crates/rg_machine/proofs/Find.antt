@@ -9,7 +9,8 @@ use Rattle.rg_base.specs.declared.value.Val.{Val}
 use Rattle.rg_cells.specs.declared.cell.Body.{Body}
 use Rattle.rg_cells.specs.Table.{Serials, body_at}
 use Rattle.rg_frames.specs.Stack.{Stack}
-use Rattle.rg_heap.specs.Answers.{Shows, fields_of, val_of}
+use Rattle.rg_heap.specs.Answers.{val_of}
+use Rattle.rg_heap.specs.Reads.{Shows, fields_of}
 use Rattle.rg_heap.specs.Parts.{Parts as HeapParts}
 use Rattle.rg_held.specs.Gone.{gone}
 use Rattle.rg_held.specs.Shown.{Finds}

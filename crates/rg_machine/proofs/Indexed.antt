@@ -19,7 +19,8 @@ use Rattle.rg_code.specs.Code.{empty}
 use Rattle.rg_code.specs.declared.op.Op.TheVariants as i
 use Rattle.rg_stack.specs.Machine.{Machine}
 use Rattle.rg_stack.specs.Effects.{Go, Stuck, Traps, Walked, element_in, place_named, put_element, put_in}
-use Rattle.rg_stack.specs.Needs.{field_of, is_closed, is_empty, is_field, is_writable, may_stand, of_element}
+use Rattle.rg_stack.specs.Needs.{is_closed, is_empty, may_stand, of_element}
+use Rattle.rg_stack.specs.Places.{field_of, is_field, is_writable}
 use Rattle.rg_stack.proofs.Basics.{and-left, and-right}
 use Rattle.rg_held.specs.Frees.{free_act}
 use Rattle.rg_view.specs.View.{object_of}

@@ -16,7 +16,7 @@ use Rattle.rg_rules.specs.Values.{as_int}
 use Rattle.rg_cells.specs.declared.cell.Body.{Body}
 use Rattle.rg_cells.specs.Table.{Heap, body_at, field_at, width}
 use Rattle.rg_regions.proofs.Callers.Told.{field_within}
-use Rattle.rg_heap.specs.Answers.{Reads}
+use Rattle.rg_heap.specs.Reads.{Reads}
 use Rattle.rg_code.specs.declared.op.Op.TheVariants as i
 use Rattle.rg_stack.specs.Effects.{element_in}
 use Rattle.rg_machine.specs.Among.{ElementIs, IsAmong, NamesPlace}

@@ -21,16 +21,19 @@ use Rattle.rg_regions.specs.Table.{HasNumber, IsBridge}
 use Rattle.rg_regions.specs.Reach.{LiesIn}
 use Rattle.rg_regions.specs.Grove.{Grove}
 use Rattle.rg_frames.specs.declared.rows.Window.{Window as WindowRow}
-use Rattle.rg_frames.specs.Stack.{Stack, with_slot}
+use Rattle.rg_frames.specs.Stack.{Stack}
+use Rattle.rg_frames.specs.Changes.{with_slot}
 use Rattle.rg_stack.specs.Machine.{Machine, put_slot, slot_at}
 use Rattle.rg_stack.specs.Effects.{Traps, Walked, on_object, on_top, put_in, stored, with_store}
-use Rattle.rg_stack.specs.Needs.{field_of, is_empty, is_field, is_writable, of_object, of_top, owned_once, owns_or_nil, size_of}
+use Rattle.rg_stack.specs.Needs.{is_empty, of_object, of_top, owned_once, owns_or_nil}
+use Rattle.rg_stack.specs.Places.{field_of, is_field, is_writable, size_of}
 use Rattle.rg_stack.proofs.Basics.{and-left, and-right}
 use Rattle.rg_held.specs.Frees.{free_act}
 use Rattle.rg_heap.specs.Parts.{Parts}
 use Rattle.rg_heap.specs.Answers.{IsClosed, val_of}
 use Rattle.rg_heap.specs.Opened.{IsWindow}
-use Rattle.rg_heap.specs.Writes.{Comes, InActive, IsTemp, LeadsOut}
+use Rattle.rg_heap.specs.Writes.{Comes, InActive, LeadsOut}
+use Rattle.rg_heap.specs.Ends.{IsTemp}
 use Rattle.rg_view.specs.View.{frames_of, machine_of, object_of, values_of}
 use Rattle.rg_view.proofs.Callers.Instructions.{can-swap, owns}
 use Rattle.rg_view.proofs.Callers.Frame.{slot-there, top-size}

@@ -21,7 +21,8 @@ use Rattle.rg_names.specs.declared.entry.FieldAt.{FieldAt}
 use Rattle.rg_names.specs.declared.entry.Sig.{Sig}
 use Rattle.rg_names.specs.Table.{Table, IsClass, field_in, method_in}
 use Rattle.rg_names.specs.TableOf.{rows_of, rows_under, rows_in, entries_of, methods_with_all, members_of, IsTableOf}
-use Rattle.rg_names.specs.TreeAnswers.{first_place, methods_before, FieldAnswer, MethodAnswer}
+use Rattle.rg_names.specs.TreeAnswers.{FieldAnswer, MethodAnswer}
+use Rattle.rg_names.specs.MethodNumbers.{first_place, methods_before}
 use Rattle.rg_names.proofs.TypeFacts.{head_of}
 use Rattle.rg_names.proofs.MembersFound.{RowsIn, FieldIn, MethodIn, find-field, find-method}
 

@@ -1,6 +1,6 @@
 -- The first of a list that passes a test, with its place.
 use Rattle.std.proofs.Common.{◌≡◌, ℕ, suc, ◌+◌, Bool, true, false, List, [], ◌∷◌, find, Option, None, Some, refl, arith}
-use Rattle.rg_names.specs.TreeAnswers.{first_place}
+use Rattle.rg_names.specs.MethodNumbers.{first_place}
 
 -- an answer that matches the first that passes, whose place is behind f others
 pub record Found {A B : Type 0} (Matches : A → B → Type 0) (number : B → ℕ) (test : A → Bool) (items : List A) (f : ℕ) (b : B) : Type 0 where

@@ -3,6 +3,7 @@ pub mod Table
 pub mod TableOf
 pub mod Book
 pub mod Judged
+pub mod MethodNumbers
 pub mod TreeAnswers
 pub mod Laws
 pub mod Inner

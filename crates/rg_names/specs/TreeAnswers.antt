@@ -1,5 +1,5 @@
 -- What the answers of a class table say of the tree of its program (docs/language.md, "Headers"). A name's number stands for its bytes.
-use Rattle.std.specs.Prelude.{◌≡◌, ℕ, zero, suc, ◌+◌, ◌<◌, ⊤, Bool as Truth, if◌then◌else◌, bytes_eq, List, [], ◌∷◌, length, map, filter_map}
+use Rattle.std.specs.Prelude.{◌≡◌, ℕ, ◌<◌, ⊤, List, length, map}
 use Rattle.std.specs.Prelude.{option_map, All, IfSome, Option, Some, None, Ok}
 use Rattle.rg_base.specs.declared.ty.Ty.{Ty}
 use Rattle.rg_base.specs.declared.ty.Ty.TheVariants.{Int, Bool, Ref}
@@ -7,10 +7,11 @@ use Rattle.rg_tree.specs.Tree.{Name, Method, Class}
 use Rattle.rg_tree.specs.Rows.Tables.{Tables, name_at, numbers_in}
 use Rattle.rg_tree.specs.Rows.RowTrees.{param_at, program_of}
 use Rattle.rg_tree.specs.Rows.RowsExist.{IsSpanBelow}
-use Rattle.rg_rules.specs.Types.{class_number, class_named, method_member, fields_of, methods_of, type_of, good_type, field_place, field_type}
+use Rattle.rg_rules.specs.Types.{class_number, class_named, fields_of, type_of, good_type, field_place, field_type}
 use Rattle.rg_rules.specs.Types.{method_named, method_result}
 use Rattle.rg_names.specs.declared.entry.FieldAt.{FieldAt}
 use Rattle.rg_names.specs.declared.entry.Sig.{Sig}
+use Rattle.rg_names.specs.MethodNumbers.{method_number}
 
 -- the number of a class of a name, if there is one
 abbrev pub class_place : List Class → Name → Option ℕ
@@ -21,21 +22,6 @@ abbrev pub IsKnown : List Class → Ty → Type 0
 IsKnown classes Int = ⊤
 IsKnown classes Bool = ⊤
 IsKnown classes (Ref cap class) = class < length classes
-
--- the methods of the classes before the class of a number
-abbrev pub methods_before : List Class → ℕ → ℕ
-methods_before [] c = 0
-methods_before (k ∷ ks) zero = 0
-methods_before (k ∷ ks) (suc c) = length (filter_map method_member k.members) + methods_before ks c
-
--- the place of the first that passes, from 0
-abbrev pub first_place : {A : Type 0} → (A → Truth) → List A → Option ℕ
-first_place test [] = None
-first_place test (a ∷ rest) = if test a then Some 0 else option_map suc (first_place test rest)
-
--- the number of the method of a name in a class: methods are counted through the program in source order, from 0
-abbrev pub method_number : List Class → ℕ → Name → Option ℕ
-method_number classes c x = option_map (λ place. methods_before classes c + place) (first_place (λ m. bytes_eq m.name x) (methods_of classes c))
 
 -- the field of a name in a class: its place among the fields, and its type, whose class is there
 pub record FieldIs (program : Tables) (class name : ℕ) (f : FieldAt) : Type 0 where

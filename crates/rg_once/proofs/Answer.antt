@@ -14,7 +14,7 @@ use Rattle.rg_rules.specs.Steps.{Went, next}
 use Rattle.rg_sound.proofs.Law.{step-keeps}
 use Rattle.rg_code.specs.Code.{Code}
 use Rattle.rg_code.specs.Dues.{due_at}
-use Rattle.rg_stack.specs.Effects.{top_region}
+use Rattle.rg_stack.specs.Tops.{top_region}
 use Rattle.rg_held.specs.Gather.{Gathered}
 use Rattle.rg_held.specs.Shown.{ShowsHeld}
 use Rattle.rg_machine.specs.Collects.{holds}

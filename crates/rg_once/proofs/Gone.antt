@@ -5,7 +5,7 @@ use Rattle.rg_base.specs.declared.object.Label.{Label}
 use Rattle.rg_base.specs.declared.object.Label.TheVariants.{Region, Temp, Frozen}
 use Rattle.rg_base.specs.declared.object.Seen.{Seen}
 use Rattle.rg_rules.specs.Regions.{region_at}
-use Rattle.rg_stack.specs.Effects.{top_region}
+use Rattle.rg_stack.specs.Tops.{top_region}
 use Rattle.rg_stack.specs.Machine.{Machine}
 use Rattle.rg_held.specs.Gather.{Gathered, LinkOut, Loses, first, further}
 use Rattle.rg_held.specs.Gone.{gone}

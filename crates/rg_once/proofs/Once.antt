@@ -14,7 +14,7 @@ use Rattle.rg_cells.specs.declared.cell.Body.{Body}
 use Rattle.rg_cells.specs.Table.{body_at}
 use Rattle.rg_regions.specs.Grove.{Members}
 use Rattle.rg_regions.specs.Reach.{LiesIn}
-use Rattle.rg_stack.specs.Effects.{top_region}
+use Rattle.rg_stack.specs.Tops.{top_region}
 use Rattle.rg_view.specs.View.{object_of, store_of}
 use Rattle.rg_view.proofs.Callers.Link.{label-in}
 use Rattle.rg_view.proofs.Callers.Look.{store-held}

@@ -35,7 +35,7 @@ use Rattle.rg_sound.proofs.Owners.Entrance.{items_of-append}
 use Rattle.rg_typed.specs.Typed.{cell_fits}
 use Rattle.rg_cown.specs.declared.cargo.CargoCell.{CargoCell}
 use Rattle.rg_cown.specs.Cargo.{label_of}
-use Rattle.rg_cown.specs.Loads.{label_from}
+use Rattle.rg_cown.specs.Cargo.{label_from}
 use Rattle.rg_cown.proofs.SoundParts.{region_below, no_temp}
 use Rattle.rg_opening.specs.declared.given.Given.{Given}
 use Rattle.rg_opening.specs.Opening.{object_from, field_values, content_objects, content_managers, opening_of}

@@ -35,7 +35,7 @@ use Rattle.rg_typed.specs.Typed.{is_outside, region_field_fits, field_fits, obje
 use Rattle.rg_typed.specs.Typed.{is_temp, cell_fits}
 use Rattle.rg_cown.specs.declared.cargo.CargoCell.{CargoCell}
 use Rattle.rg_cown.specs.Cargo.{CargoList, label_of, is_frozen, is_in, SoundCargo}
-use Rattle.rg_cown.specs.Loads.{label_from}
+use Rattle.rg_cown.specs.Cargo.{label_from}
 use Rattle.rg_cown.proofs.SoundParts.{parts_of, label_there}
 use Rattle.rg_cown.proofs.SoundMade.{is_in_true}
 use Rattle.rg_opening.specs.declared.given.Given.{Given}

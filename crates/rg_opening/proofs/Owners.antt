@@ -27,7 +27,7 @@ use Rattle.rg_sound.proofs.Values.Declared.{array-class}
 use Rattle.rg_typed.specs.Typed.{field_fits, object_fits, value_fits, fields_fit, values_fit, object_of_class, is_temp, cell_fits}
 use Rattle.rg_cown.specs.declared.cargo.CargoCell.{CargoCell}
 use Rattle.rg_cown.specs.Cargo.{CargoList}
-use Rattle.rg_cown.specs.Loads.{label_from}
+use Rattle.rg_cown.specs.Cargo.{label_from}
 use Rattle.rg_cown.proofs.GroveLoaded.{first_there}
 use Rattle.rg_cown.proofs.SoundParts.{Enters, region_below, one_entry, no_entry, enters_first}
 use Rattle.rg_opening.specs.declared.given.Given.{Given}

@@ -12,7 +12,7 @@ use Rattle.rg_tree.specs.Tree.{Method}
 use Rattle.rg_rules.specs.Items.{EndAt, Back, items_of}
 use Rattle.rg_rules.specs.State.{Drops, State}
 use Rattle.rg_cown.specs.declared.cargo.CargoCell.{CargoCell}
-use Rattle.rg_cown.specs.Loads.{label_from}
+use Rattle.rg_cown.specs.Cargo.{label_from}
 use Rattle.rg_opening.specs.declared.given.Given.{Given}
 use Rattle.rg_opening.specs.declared.given.Given.TheVariants.{Start, Held}
 

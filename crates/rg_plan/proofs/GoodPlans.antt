@@ -12,7 +12,7 @@ use Rattle.rg_base.specs.Pieces.{is_empty}
 use Rattle.rg_base.specs.Words.{beside}
 use Rattle.rg_tree.specs.Tree.{Name, Class, Tree}
 use Rattle.rg_rules.specs.Types.{class_named, class_number, is_array, method_named}
-use Rattle.rg_names.specs.TreeAnswers.{method_number}
+use Rattle.rg_names.specs.MethodNumbers.{method_number}
 use Rattle.rg_rules.proofs.Answers.{bind-ok}
 use Rattle.rg_plan.specs.declared.limits.TheConstants.{COWNS, BEHAVIOURS}
 use Rattle.rg_plan.specs.declared.cown.Cown.{Cown}

@@ -2,7 +2,7 @@
 use Rattle.std.specs.Prelude.{◌≡◌, ◌≢◌, ℕ, ◌<◌, true, false, List, length, All, AllPairs, Some, Ok, slice_get}
 use Rattle.rg_tree.specs.Tree.{Name, Method, Class, Tree}
 use Rattle.rg_rules.specs.Types.{is_array, method_named}
-use Rattle.rg_names.specs.TreeAnswers.{method_number}
+use Rattle.rg_names.specs.MethodNumbers.{method_number}
 use Rattle.rg_plan.specs.declared.cown.Start.{Start}
 use Rattle.rg_plan.specs.declared.cown.Start.TheVariants.{New, Image}
 use Rattle.rg_plan.specs.declared.cown.Cown.{Cown}

@@ -3,7 +3,7 @@ use Rattle.std.specs.Prelude.{ℕ, ◌+◌, ◌&&◌, Bool as Truth, true, false
 use Rattle.std.specs.Prelude.{length, map, filter_map, slice_get, Option, Some, None}
 use Rattle.std.specs.List.{list_all}
 use Rattle.rg_base.specs.declared.words.Cap.{Cap}
-use Rattle.rg_base.specs.declared.words.Cap.TheVariants.{Mut, Tmp, Paused, Imm, Iso}
+use Rattle.rg_base.specs.declared.words.Cap.TheVariants.{Mut, Iso}
 use Rattle.rg_base.specs.declared.words.Manager.{Manager}
 use Rattle.rg_base.specs.declared.words.Manager.TheVariants.{Arena, Count, Trace}
 use Rattle.rg_base.specs.declared.ty.Ty.{Ty}
@@ -13,7 +13,7 @@ use Rattle.rg_base.specs.Pieces.{is_empty}
 use Rattle.rg_base.specs.Input.{digits_number}
 use Rattle.rg_tree.specs.Tree.{Name, Param, Method, Member, field, method, Class}
 use Rattle.rg_rules.specs.Types.{class_named, class_number, is_array, members_of, method_named, type_of}
-use Rattle.rg_names.specs.TreeAnswers.{method_number}
+use Rattle.rg_names.specs.MethodNumbers.{method_number}
 use Rattle.rg_plan.specs.declared.limits.TheConstants.{NUMBER_DIGITS}
 use Rattle.rg_plan.specs.declared.cown.Cown.{Cown}
 use Rattle.rg_plan.specs.declared.cown.Start.TheVariants.{New, Image}
@@ -106,10 +106,7 @@ no_result (Some a) = false
 -- `mut`
 abbrev pub is_mut : Cap → Truth
 is_mut Mut = true
-is_mut Tmp = false
-is_mut Paused = false
-is_mut Imm = false
-is_mut Iso = false
+is_mut cap = false
 
 -- `def mut m() { .. }`
 abbrev pub is_plain : Method → Truth
@@ -127,11 +124,8 @@ target classes text = do
 
 -- the class of a type, if it is `iso`
 abbrev pub owned_under : Cap → (class : ℕ) → Option ℕ
-owned_under Mut class = None
-owned_under Tmp class = None
-owned_under Paused class = None
-owned_under Imm class = None
 owned_under Iso class = Some class
+owned_under cap class = None
 
 abbrev pub owned_type : Ty → Option ℕ
 owned_type Int = None

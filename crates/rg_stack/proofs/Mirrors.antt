@@ -7,7 +7,7 @@ use Rattle.rg_rules.specs.Steps.{Stepped as Plain, Went, Trapped as Fails}
 use Rattle.rg_code.specs.Code.{Code}
 use Rattle.rg_code.specs.Places.{Lies}
 use Rattle.rg_stack.specs.Machine.{Machine}
-use Rattle.rg_stack.specs.Effects.{Work}
+use Rattle.rg_stack.specs.Tops.{Work}
 use Rattle.rg_stack.specs.Runs.{Stepped, Goes, Ends, Trapped, Lost, with_printed}
 use Rattle.rg_stack.specs.Shows.{ShowsFrames, ShowsWindows, sizes_of, levels_of}
 use Rattle.rg_stack.specs.Left.{NoneLeft, SomeLeft}

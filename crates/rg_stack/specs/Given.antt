@@ -2,7 +2,8 @@
 use Rattle.std.specs.Prelude.{ℕ, if◌then◌else◌, List}
 use Rattle.rg_code.specs.declared.op.Op.{Op}
 use Rattle.rg_code.specs.Code.{Code}
-use Rattle.rg_stack.specs.Effects.{Work, Walked, Stuck, Go, Act, act, walk_by}
+use Rattle.rg_stack.specs.Effects.{Walked, Stuck, Go, Act, act, walk_by}
+use Rattle.rg_stack.specs.Tops.{Work}
 use Rattle.rg_stack.specs.Runs.{Stepped, finished_by, step_from_by, step_by}
 use Rattle.rg_stack.specs.Needs.{needs}
 

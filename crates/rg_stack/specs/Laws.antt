@@ -11,7 +11,7 @@ use Rattle.rg_sound.specs.Fit.{Fit}
 use Rattle.rg_code.specs.Code.{Code}
 use Rattle.rg_code.specs.Lowering.{Lowers}
 use Rattle.rg_stack.specs.Machine.{Machine}
-use Rattle.rg_stack.specs.Effects.{Work}
+use Rattle.rg_stack.specs.Tops.{Work}
 use Rattle.rg_stack.specs.Runs.{step, opening, coded}
 use Rattle.rg_stack.specs.Given.{given_step}
 use Rattle.rg_stack.specs.Shows.{Shows}

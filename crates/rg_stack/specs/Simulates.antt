@@ -7,7 +7,7 @@ use Rattle.rg_rules.specs.Steps.{Stepped as Plain, Went, Trapped as Fails}
 use Rattle.rg_rules.specs.Runs.{Ending, Ran as PlainRan}
 use Rattle.rg_rules.specs.Runs as plain
 use Rattle.rg_code.specs.Code.{Code}
-use Rattle.rg_stack.specs.Effects.{Work}
+use Rattle.rg_stack.specs.Tops.{Work}
 use Rattle.rg_stack.specs.Runs.{Stepped, Goes, Ends, Trapped, Lost, Standing, Running, Done, Stopped, Astray, Ran, with_printed}
 use Rattle.rg_stack.specs.Shows.{Shows}
 use Rattle.rg_stack.specs.Left.{NoneLeft, SomeLeft}

@@ -3,7 +3,8 @@ use Rattle.std.specs.Prelude.{◌≡◌, ℕ, ◌-◌, List, [], ◌∷◌, map,
 use Rattle.rg_base.specs.declared.value.Word.{Word}
 use Rattle.rg_base.specs.declared.value.Word.TheVariants.{Nil, Slot}
 use Rattle.rg_code.specs.Code.{Code}
-use Rattle.rg_frames.specs.Stack.{Stack, IsEmpty, begun, roomed, pushed_of}
+use Rattle.rg_frames.specs.Stack.{Stack, IsEmpty}
+use Rattle.rg_frames.specs.Changes.{begun, roomed, pushed_of}
 use Rattle.rg_heap.specs.Changes.{LeadsNowhere}
 use Rattle.rg_heap.specs.Parts.{Parts}
 use Rattle.rg_opening.specs.declared.given.Given.{Given}

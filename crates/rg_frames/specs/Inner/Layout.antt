@@ -6,7 +6,8 @@ use Rattle.rg_base.specs.declared.value.Word.TheVariants.{Nil}
 use Rattle.rg_frames.specs.declared.rows.Frame.{Frame}
 use Rattle.rg_frames.specs.declared.rows.Row.{Row}
 use Rattle.rg_frames.specs.declared.rows.Window.{Window}
-use Rattle.rg_frames.specs.Stack.{BasesRise, Stack}
+use Rattle.rg_frames.specs.Stack.{Stack}
+use Rattle.rg_frames.specs.Changes.{BasesRise}
 
 -- numbers that don't fall, none above a most one
 pub record Rises (most : ℕ) (ns : List ℕ) : Type 0 where

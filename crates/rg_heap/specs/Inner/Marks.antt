@@ -7,7 +7,8 @@ use Rattle.rg_base.specs.declared.words.Manager.TheVariants.{Count}
 use Rattle.rg_regions.specs.Table.{Record, RegionTable, HasNumber, record_at}
 use Rattle.rg_regions.specs.Reach.{LiesIn}
 use Rattle.rg_regions.specs.Grove.{leads_to}
-use Rattle.rg_heap.specs.Writes.{Stays, IsTemp, IsCounting}
+use Rattle.rg_heap.specs.Writes.{Stays, IsCounting}
+use Rattle.rg_heap.specs.Ends.{IsTemp}
 
 -- the cell at a slot lies in the region of a key, where the word may stand in a field, or it is a temporary
 abbrev pub MayWrite : Heap → RegionTable → (key slot : ℕ) → Word → Type 0

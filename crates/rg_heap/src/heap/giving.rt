@@ -1,7 +1,7 @@
 //! Windows that are left with another bridge (docs/architecture.md, "The heap").
 
 ghost use Rattle.std.specs.Prelude.{◌≡◌, ◌≤◌, OnErr, length};
-ghost use Rattle.rg_frames.specs.Stack.{Begun};
+ghost use Rattle.rg_frames.specs.Changes.{Begun};
 ghost use Rattle.rg_heap.specs.Ends.{CanLeave, OnSlot};
 ghost use Rattle.rg_heap.specs.Gives.{CanGive, GivenOrNil, Gives};
 ghost use Rattle.rg_heap.specs.Opened.{Opened};

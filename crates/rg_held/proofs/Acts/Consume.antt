@@ -17,7 +17,8 @@ use Rattle.rg_sound.proofs.Stores.Member.{In, among-in, in-among, not-among, amo
 use Rattle.rg_code.specs.declared.op.Op.TheVariants as i
 use Rattle.rg_code.specs.Code.{Code}
 use Rattle.rg_stack.specs.Machine.{Machine, slot_at, put_slot}
-use Rattle.rg_stack.specs.Effects.{Work, Go, Traps, act, beneath_by_labels, relabel, top_region, with_store, stored, on_object}
+use Rattle.rg_stack.specs.Effects.{Go, Traps, act, beneath_by_labels, relabel, with_store, stored, on_object}
+use Rattle.rg_stack.specs.Tops.{Work, top_region}
 use Rattle.rg_stack.specs.Needs.{is_closed, closed_of, owns_or_nil, owned_once, needs}
 use Rattle.rg_stack.specs.Labels.{is_open, label_of, is_into, is_outside}
 use Rattle.rg_stack.proofs.Basics.{none-some, and-left, and-right}

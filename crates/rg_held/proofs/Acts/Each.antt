@@ -6,7 +6,7 @@ use Rattle.rg_tree.specs.declared.rows.BinOp.TheVariants as op
 use Rattle.rg_rules.specs.Values.{as_bool, is_nil_value}
 use Rattle.rg_code.specs.declared.op.Op.{Op}
 use Rattle.rg_code.specs.declared.op.Op.TheVariants as i
-use Rattle.rg_stack.specs.Effects.{Work}
+use Rattle.rg_stack.specs.Tops.{Work}
 use Rattle.rg_held.specs.Ends.{Match}
 use Rattle.rg_held.specs.Laws.{owners_of, ActSame}
 use Rattle.rg_held.proofs.Lists.{off}

@@ -17,9 +17,11 @@ use Rattle.rg_rules.specs.RightSides.{is_left}
 use Rattle.rg_code.specs.declared.op.Op.TheVariants as i
 use Rattle.rg_code.specs.Code.{Code}
 use Rattle.rg_stack.specs.Machine.{slot_at}
-use Rattle.rg_stack.specs.Effects.{Work, Traps, Go, act, next_taken, on_top, stored, called, element_in, place_named}
+use Rattle.rg_stack.specs.Effects.{Traps, Go, act, next_taken, on_top, stored, called, element_in, place_named}
+use Rattle.rg_stack.specs.Tops.{Work}
 use Rattle.rg_code.specs.declared.code.Entry.{Entry}
-use Rattle.rg_stack.specs.Needs.{is_closed, is_empty, owned_once, size_of, may_keep, needs}
+use Rattle.rg_stack.specs.Needs.{is_closed, is_empty, owned_once, may_keep, needs}
+use Rattle.rg_stack.specs.Places.{size_of}
 use Rattle.rg_stack.specs.Labels.{is_into}
 use Rattle.rg_stack.proofs.Basics.{and-left, and-right}
 use Rattle.rg_held.specs.Frees.{free_act}

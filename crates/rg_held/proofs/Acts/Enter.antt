@@ -16,11 +16,14 @@ use Rattle.rg_rules.specs.Regions.{region_of}
 use Rattle.rg_code.specs.declared.op.Op.TheVariants as i
 use Rattle.rg_code.specs.Code.{Code}
 use Rattle.rg_stack.specs.Machine.{Window, Machine, top_slots, slot_at, place_of}
-use Rattle.rg_stack.specs.Effects.{Work, Walked, Stuck, Traps, Go, act, entered, opens_at, begins_by, on_object, frame_number}
-use Rattle.rg_stack.specs.Effects.{top_region, top_window}
-use Rattle.rg_stack.specs.Needs.{is_closed, owns_or_nil, owned_once, is_writable, is_field}
+use Rattle.rg_stack.specs.Effects.{Walked, Stuck, Traps, Go, act, opens_at, begins_by, on_object}
+use Rattle.rg_stack.specs.Tops.{Work, entered, frame_number}
+use Rattle.rg_stack.specs.Tops.{top_region, top_window}
+use Rattle.rg_stack.specs.Needs.{is_closed, owns_or_nil, owned_once}
+use Rattle.rg_stack.specs.Places.{is_writable, is_field}
 use Rattle.rg_stack.specs.Labels.{is_open, has_window, label_of, is_into, is_outside}
-use Rattle.rg_stack.specs.Needs.{field_of, needs}
+use Rattle.rg_stack.specs.Needs.{needs}
+use Rattle.rg_stack.specs.Places.{field_of}
 use Rattle.rg_stack.proofs.Basics.{and-left, and-right}
 use Rattle.rg_held.specs.Frees.{free_act}
 use Rattle.rg_held.specs.Part.{leads_to, FieldInto, Placed, Part, OwnerHeld, is_of, may_lead, is_shut_or_above}

@@ -18,7 +18,7 @@ use Rattle.rg_sound.proofs.Owners.Owner.{get-set}
 use Rattle.rg_stack.specs.Machine.{Frame, Window, Machine, put_in_frame}
 use Rattle.rg_stack.specs.Effects.{with_value_in, put_in, put_at}
 use Rattle.rg_stack.specs.Labels.{is_open, label_of, is_into, is_outside}
-use Rattle.rg_stack.specs.Needs.{field_of, value_at}
+use Rattle.rg_stack.specs.Places.{field_of, value_at}
 use Rattle.rg_stack.proofs.Basics.{none-some}
 use Rattle.rg_held.specs.Part.{leads_to, SlotInto, Placed, Part, is_of, OwnerHeld, is_shut_or_above, may_lead}
 use Rattle.rg_held.proofs.Lists.{off, set-back, set-old, reverse-cons, append-left}

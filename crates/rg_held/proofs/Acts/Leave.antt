@@ -22,12 +22,14 @@ use Rattle.rg_sound.proofs.Stores.Member.{In, in-left, in-right, in-split, among
 use Rattle.rg_code.specs.declared.op.Op.TheVariants as i
 use Rattle.rg_code.specs.Code.{Code}
 use Rattle.rg_stack.specs.Machine.{Frame, Window, Machine, top_slots, slot_at, end_slots, place_of}
-use Rattle.rg_stack.specs.Effects.{Work, Walked, Traps, Go, act, on_object, without_top, top_window, top_region, top_owner, put_at, left}
+use Rattle.rg_stack.specs.Effects.{Walked, Traps, Go, act, on_object, put_at, left}
+use Rattle.rg_stack.specs.Tops.{Work, without_top, top_window, top_region, top_owner}
 use Rattle.rg_stack.specs.Effects.{beneath_by_labels}
 use Rattle.rg_stack.specs.Needs.{closed_into, owned_once, is_top_temp, is_to_temp, outlives}
 use Rattle.rg_stack.specs.Labels.{is_open, has_window, label_of, is_into, is_outside}
-use Rattle.rg_stack.specs.Needs.{field_of}
-use Rattle.rg_stack.specs.Needs.{top_base, temps_may_go, owner_leads, owner_at, value_at, may_leave, seen_by_owner, needs}
+use Rattle.rg_stack.specs.Places.{field_of}
+use Rattle.rg_stack.specs.Needs.{temps_may_go, owner_leads, owner_at, may_leave, seen_by_owner, needs}
+use Rattle.rg_stack.specs.Places.{top_base, value_at}
 use Rattle.rg_stack.proofs.Basics.{none-some, and-left, and-right}
 use Rattle.rg_held.specs.Frees.{is_temp, closed_among, closed_by_temps, left_with, window_that_ends, bury, free_act, freed}
 use Rattle.rg_held.specs.Gone.{gone}

@@ -25,11 +25,14 @@ use Rattle.rg_sound.proofs.Owners.Owner.{get-set}
 use Rattle.rg_code.specs.declared.op.Op.TheVariants as i
 use Rattle.rg_code.specs.Code.{Code}
 use Rattle.rg_stack.specs.Machine.{Window, Machine, value_of_word, slot_at, put_slot}
-use Rattle.rg_stack.specs.Effects.{Work, Go, Traps, act, made, with_store, with_value_in, put_in, top_region, top_window, on_object, stored}
+use Rattle.rg_stack.specs.Effects.{Go, Traps, act, made, with_store, with_value_in, put_in, on_object, stored}
+use Rattle.rg_stack.specs.Tops.{Work, top_region, top_window}
 use Rattle.rg_stack.specs.Effects.{made_array, opening_element, put_element, place_named}
-use Rattle.rg_stack.specs.Needs.{is_closed, closed_of, leads_nowhere, is_field, opens_plain}
+use Rattle.rg_stack.specs.Needs.{is_closed, closed_of, leads_nowhere, opens_plain}
+use Rattle.rg_stack.specs.Places.{is_field}
 use Rattle.rg_stack.specs.Labels.{is_open, has_window, label_of, is_into}
-use Rattle.rg_stack.specs.Needs.{is_writable, may_stand, field_of, owns_or_nil, owned_once, size_of, needs}
+use Rattle.rg_stack.specs.Needs.{may_stand, owns_or_nil, owned_once, needs}
+use Rattle.rg_stack.specs.Places.{is_writable, field_of, size_of}
 use Rattle.rg_stack.specs.Labels.{is_outside}
 use Rattle.rg_stack.proofs.Basics.{none-some, and-left, and-right}
 use Rattle.rg_held.specs.Frees.{free_act}

@@ -10,7 +10,8 @@ use Rattle.rg_base.specs.declared.value.Val.TheVariants as val
 use Rattle.rg_sound.proofs.Stores.Member.{In, filter-none, filter-some}
 use Rattle.rg_stack.specs.Machine.{Machine, top_slots, slot_at, put_slot, end_slots}
 use Rattle.rg_stack.specs.Effects.{beneath_by_labels}
-use Rattle.rg_stack.specs.Needs.{closed_into, loose, owned_once, places_into, size_of}
+use Rattle.rg_stack.specs.Needs.{closed_into, loose, owned_once, places_into}
+use Rattle.rg_stack.specs.Places.{size_of}
 use Rattle.rg_stack.specs.Labels.{is_open, is_into}
 use Rattle.rg_stack.proofs.Basics.{none-some}
 use Rattle.rg_held.specs.Frees.{closed_among, bury}

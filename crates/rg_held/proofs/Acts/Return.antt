@@ -11,8 +11,10 @@ use Rattle.rg_sound.proofs.Stores.Member.{In}
 use Rattle.rg_code.specs.declared.op.Op.TheVariants as i
 use Rattle.rg_code.specs.Code.{Code}
 use Rattle.rg_stack.specs.Machine.{Frame, Machine, top_slots, slot_at, put_slot, end_slots, slots_below}
-use Rattle.rg_stack.specs.Effects.{Work, Returns, Stuck, Go, act, stored, returned, begins_by, beneath_by_labels}
-use Rattle.rg_stack.specs.Needs.{loose, owned_once, owns_or_nil, places_into, size_of, may_keep, needs}
+use Rattle.rg_stack.specs.Effects.{Returns, Stuck, Go, act, stored, returned, begins_by, beneath_by_labels}
+use Rattle.rg_stack.specs.Tops.{Work}
+use Rattle.rg_stack.specs.Needs.{loose, owned_once, owns_or_nil, places_into, may_keep, needs}
+use Rattle.rg_stack.specs.Places.{size_of}
 use Rattle.rg_stack.specs.Labels.{is_open, is_into}
 use Rattle.rg_stack.proofs.Basics.{none-some, and-left, and-right}
 use Rattle.rg_held.specs.Frees.{closed_among, bury, free_act, freed, given_up}

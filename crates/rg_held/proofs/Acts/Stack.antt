@@ -14,7 +14,8 @@ use Rattle.rg_tree.specs.declared.rows.BinOp.TheVariants as op
 use Rattle.rg_rules.specs.Values.{Computed, as_int, number_value, is_zero, divided, operate}
 use Rattle.rg_rules.specs.Evaluation.{object_at}
 use Rattle.rg_stack.specs.Machine.{Machine, top_slots, slot_at}
-use Rattle.rg_stack.specs.Effects.{Work, Go, pushed, on_two}
+use Rattle.rg_stack.specs.Effects.{Go, pushed, on_two}
+use Rattle.rg_stack.specs.Tops.{Work}
 use Rattle.rg_stack.specs.Labels.{is_open, is_into}
 use Rattle.rg_held.specs.Part.{leads_to, AllLead, Placed, Part}
 use Rattle.rg_held.specs.Ends.{Match, SameEnd}

@@ -14,7 +14,7 @@ use Rattle.rg_base.specs.declared.value.Val.TheVariants as val
 use Rattle.rg_sound.proofs.Owners.Owner.{get-set}
 use Rattle.rg_stack.specs.Machine.{Window, Machine}
 use Rattle.rg_stack.specs.Effects.{with_value_in}
-use Rattle.rg_stack.specs.Needs.{field_of}
+use Rattle.rg_stack.specs.Places.{field_of}
 use Rattle.rg_stack.specs.Labels.{is_open, label_of, lies_in, is_into, is_outside}
 use Rattle.rg_held.specs.Gone.{gone}
 use Rattle.rg_held.specs.Part.{leads_to, AllLead, Placed, Part, is_of, OwnersHeld, may_lead}

@@ -14,7 +14,7 @@ use Rattle.rg_base.specs.declared.value.Val.{Val}
 use Rattle.rg_base.specs.declared.words.Manager.{Manager}
 use Rattle.rg_base.specs.declared.words.Manager.TheVariants.{Arena}
 use Rattle.rg_stack.specs.Machine.{Window, Machine}
-use Rattle.rg_stack.specs.Effects.{Work}
+use Rattle.rg_stack.specs.Tops.{Work}
 use Rattle.rg_stack.specs.Labels.{is_open, lies_in}
 use Rattle.rg_held.specs.Frees.{lives, forgotten}
 use Rattle.rg_held.specs.Part.{Part}

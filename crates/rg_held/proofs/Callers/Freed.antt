@@ -18,7 +18,8 @@ use Rattle.rg_code.specs.declared.op.Op.{Op}
 use Rattle.rg_code.specs.declared.op.Op.TheVariants as i
 use Rattle.rg_code.specs.Code.{Code}
 use Rattle.rg_stack.specs.Machine.{Machine}
-use Rattle.rg_stack.specs.Effects.{Work, Walked, Stops, Returns, Traps, Stuck}
+use Rattle.rg_stack.specs.Effects.{Walked, Stops, Returns, Traps, Stuck}
+use Rattle.rg_stack.specs.Tops.{Work}
 use Rattle.rg_stack.specs.Runs.{Stepped, Goes, Ends, Trapped, Lost, come_to, landed, stopped}
 use Rattle.rg_stack.specs.Labels.{has_window}
 use Rattle.rg_stack.specs.Given.{given_walk, given_finished, given_step_from, given_step}

@@ -18,8 +18,10 @@ use Rattle.rg_code.specs.declared.op.Op.{Op}
 use Rattle.rg_code.specs.declared.op.Op.TheVariants as i
 use Rattle.rg_code.specs.Code.{Code}
 use Rattle.rg_stack.specs.Machine.{Machine, slot_at}
-use Rattle.rg_stack.specs.Effects.{Work, Walked, Stops, Returns, Traps, Stuck, Go, put_element, place_named, top_owner, left, put_at}
-use Rattle.rg_stack.specs.Effects.{entered, relabel, beneath_by_labels, top_region, put_in, with_value_in}
+use Rattle.rg_stack.specs.Effects.{Walked, Stops, Returns, Traps, Stuck, Go, put_element, place_named, left, put_at}
+use Rattle.rg_stack.specs.Tops.{Work, top_owner}
+use Rattle.rg_stack.specs.Effects.{relabel, beneath_by_labels, put_in, with_value_in}
+use Rattle.rg_stack.specs.Tops.{entered, top_region}
 use Rattle.rg_stack.specs.Runs.{Stepped, Goes, Ends, Trapped, Lost, come_to, landed, stopped}
 use Rattle.rg_base.specs.declared.object.Place.{Place}
 use Rattle.rg_held.specs.Frees.{Given, given_up, regions_freed, freed, free_act, free_walk, free_finished, free_step_from, free_step}

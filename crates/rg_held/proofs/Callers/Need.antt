@@ -28,11 +28,16 @@ use Rattle.rg_code.specs.Code.{Code}
 use Rattle.rg_stack.specs.Machine.{Frame, Window, Machine, top_slots, slot_at, end_slots, place_of}
 use Rattle.rg_stack.specs.Needs.{closed_of, closed_into, is_closed, slots_into, fields_into}
 use Rattle.rg_stack.specs.Labels.{is_open, label_of, lies_in, is_into, is_outside}
-use Rattle.rg_stack.specs.Needs.{places_into, all_below, owned_once, loose, owns_or_nil, is_top_temp, is_to_temp, outlives, temps_may_go, is_writable}
-use Rattle.rg_stack.specs.Needs.{top_base, is_open_label, may_keep}
-use Rattle.rg_stack.specs.Needs.{may_stand, field_of, of_object, is_field, value_at, owner_leads, is_empty, of_top, may_leave}
-use Rattle.rg_stack.specs.Needs.{is_near, owned_alone, owner_near, seen_by_owner, needs}
-use Rattle.rg_stack.specs.Effects.{left, without_top, top_region, top_owner, place_named}
+use Rattle.rg_stack.specs.Needs.{places_into, all_below, owned_once, loose, owns_or_nil, is_top_temp, is_to_temp, outlives, temps_may_go}
+use Rattle.rg_stack.specs.Places.{is_writable}
+use Rattle.rg_stack.specs.Needs.{is_open_label, may_keep}
+use Rattle.rg_stack.specs.Places.{top_base}
+use Rattle.rg_stack.specs.Needs.{may_stand, of_object, owner_leads, is_empty, of_top, may_leave}
+use Rattle.rg_stack.specs.Places.{field_of, is_field, value_at}
+use Rattle.rg_stack.specs.Needs.{owned_alone, owner_near, seen_by_owner, needs}
+use Rattle.rg_stack.specs.Places.{is_near}
+use Rattle.rg_stack.specs.Effects.{left, place_named}
+use Rattle.rg_stack.specs.Tops.{without_top, top_region, top_owner}
 use Rattle.rg_stack.proofs.Basics.{none-some, and-left, and-right}
 use Rattle.rg_stack.proofs.Callers.Need.{below_by}
 use Rattle.rg_held.specs.Gone.{gone}

@@ -11,7 +11,8 @@ use Rattle.rg_code.specs.declared.op.Op.{Op}
 use Rattle.rg_code.specs.declared.op.Op.TheVariants as i
 use Rattle.rg_code.specs.Code.{Code}
 use Rattle.rg_code.specs.Lowering.{Lowers}
-use Rattle.rg_stack.specs.Effects.{Work, Walked, Stops, Returns, Traps, Stuck}
+use Rattle.rg_stack.specs.Effects.{Walked, Stops, Returns, Traps, Stuck}
+use Rattle.rg_stack.specs.Tops.{Work}
 use Rattle.rg_stack.specs.Runs.{Stepped, Goes, Ends, Trapped, Lost, landed, step}
 use Rattle.rg_stack.specs.Simulates.{Holds}
 use Rattle.rg_stack.specs.Left.{SomeLeft}

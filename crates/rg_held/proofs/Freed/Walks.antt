@@ -27,8 +27,10 @@ use Rattle.rg_code.specs.declared.op.Op.{Op}
 use Rattle.rg_code.specs.declared.op.Op.TheVariants as i
 use Rattle.rg_code.specs.Code.{Code}
 use Rattle.rg_stack.specs.Machine.{Window, slot_at, place_of, Machine}
-use Rattle.rg_stack.specs.Effects.{Work, Walked, Traps, Stuck, Go, put_element, place_named, top_owner, left, put_at}
-use Rattle.rg_stack.specs.Effects.{entered, relabel, without_top, top_region, with_store, put_in, stored}
+use Rattle.rg_stack.specs.Effects.{Walked, Traps, Stuck, Go, put_element, place_named, left, put_at}
+use Rattle.rg_stack.specs.Tops.{Work, top_owner}
+use Rattle.rg_stack.specs.Effects.{relabel, with_store, put_in, stored}
+use Rattle.rg_stack.specs.Tops.{entered, without_top, top_region}
 use Rattle.rg_stack.specs.Needs.{needs}
 use Rattle.rg_stack.specs.Labels.{is_open}
 use Rattle.rg_stack.proofs.Basics.{none-some}

@@ -5,7 +5,7 @@ use Rattle.std.proofs.lemmas.Option.{same_Some}
 use Rattle.std.proofs.lemmas.Bool.{eq-eqb, cases_Bool, ne_eqb}
 use Rattle.std.specs.Prelude.{◌||◌}
 use Rattle.rg_stack.specs.Machine.{Window, Machine}
-use Rattle.rg_stack.specs.Effects.{without_top}
+use Rattle.rg_stack.specs.Tops.{without_top}
 use Rattle.rg_stack.specs.Labels.{has_window, is_open}
 use Rattle.rg_stack.proofs.Basics.{none-some}
 use Rattle.rg_held.specs.Frees.{window_that_ends, left_with}

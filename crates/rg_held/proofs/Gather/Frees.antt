@@ -14,7 +14,7 @@ use Rattle.rg_base.proofs.Callers.Lists.{there as below-get}
 use Rattle.rg_base.proofs.Callers.Labels.{temp-region}
 use Rattle.rg_rules.specs.Regions.{region_of, region_at}
 use Rattle.rg_stack.specs.Machine.{Frame, Window, Machine}
-use Rattle.rg_stack.specs.Effects.{top_region}
+use Rattle.rg_stack.specs.Tops.{top_region}
 use Rattle.rg_stack.specs.Needs.{owned_once}
 use Rattle.rg_stack.specs.Labels.{is_open, has_window, lies_in, is_into, is_outside}
 use Rattle.rg_stack.proofs.Basics.{none-some}

@@ -9,8 +9,8 @@ use Rattle.rg_base.specs.declared.value.Val.{Val}
 use Rattle.rg_base.specs.declared.value.Val.TheVariants as val
 use Rattle.rg_rules.specs.Regions.{region_of}
 use Rattle.rg_stack.specs.Machine.{Frame, Window, Machine, place_of}
-use Rattle.rg_stack.specs.Effects.{top_region, top_window}
-use Rattle.rg_stack.specs.Needs.{value_at, field_of, top_base}
+use Rattle.rg_stack.specs.Tops.{top_region, top_window}
+use Rattle.rg_stack.specs.Places.{value_at, field_of, top_base}
 use Rattle.rg_held.specs.Part.{leads_to, Part, OwnerHeld, OwnersHeld}
 use Rattle.rg_held.specs.Gather.{bridge_value, KeepsOf, Keeps, LinkOut, Loses, first, further, Gathered}
 use Rattle.rg_held.proofs.Lists.{reverse-back}

@@ -32,8 +32,8 @@ use Rattle.rg_sound.proofs.LocalRoots.{fit-local_roots}
 use Rattle.rg_sound.proofs.Stores.Member.{in-among}
 use Rattle.rg_code.specs.Code.{Code}
 use Rattle.rg_stack.specs.Machine.{Frame, Window, Machine, slots_below, place_of}
-use Rattle.rg_stack.specs.Effects.{top_region, top_window}
-use Rattle.rg_stack.specs.Needs.{field_of, value_at, top_base}
+use Rattle.rg_stack.specs.Tops.{top_region, top_window}
+use Rattle.rg_stack.specs.Places.{field_of, value_at, top_base}
 use Rattle.rg_stack.specs.Labels.{has_window}
 use Rattle.rg_stack.specs.Shows.{Shows, ShowsFrame, ShowsFrames, ShowsWindows, place_among, sizes_of}
 use Rattle.rg_stack.proofs.Basics.{none-some, and-left, and-right}

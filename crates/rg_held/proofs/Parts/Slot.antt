@@ -8,7 +8,7 @@ use Rattle.std.specs.List.{list_any}
 use Rattle.rg_base.specs.declared.value.Val.{Val}
 use Rattle.rg_base.specs.declared.value.Val.TheVariants as val
 use Rattle.rg_stack.specs.Machine.{Frame, Machine, top_slots, with_slots, slot_at, put_slot, ended_slots, end_slots}
-use Rattle.rg_stack.specs.Needs.{size_of}
+use Rattle.rg_stack.specs.Places.{size_of}
 use Rattle.rg_stack.specs.Labels.{is_open, is_into}
 use Rattle.rg_stack.proofs.Basics.{none-some}
 use Rattle.rg_held.specs.Part.{leads_to, AllLead, SlotInto, Placed, Part}

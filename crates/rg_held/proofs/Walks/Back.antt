@@ -18,9 +18,11 @@ use Rattle.rg_code.specs.declared.op.Op.{Op}
 use Rattle.rg_code.specs.declared.op.Op.TheVariants as i
 use Rattle.rg_code.specs.Code.{Code}
 use Rattle.rg_stack.specs.Machine.{Frame, with_slots, slot_at, slots_below, put_in_frame, Machine}
-use Rattle.rg_stack.specs.Effects.{Work, Walked, Stops, Returns, Traps, Stuck, Go, act, with_store, stored, put_in, put_element, top_owner, left}
+use Rattle.rg_stack.specs.Effects.{Walked, Stops, Returns, Traps, Stuck, Go, act, with_store, stored, put_in, put_element, left}
+use Rattle.rg_stack.specs.Tops.{Work, top_owner}
 use Rattle.rg_stack.specs.Effects.{put_at}
-use Rattle.rg_stack.specs.Effects.{address, relabel, top_region, frame_number, entered, begins_by, returned, called}
+use Rattle.rg_stack.specs.Effects.{address, relabel, begins_by, returned, called}
+use Rattle.rg_stack.specs.Tops.{top_region, frame_number, entered}
 use Rattle.rg_stack.specs.Needs.{needs}
 use Rattle.rg_stack.specs.Given.{given_act, given_walk}
 use Rattle.rg_stack.specs.Refusals.{calm, CalmBehind}

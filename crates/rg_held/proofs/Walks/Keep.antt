@@ -11,7 +11,8 @@ use Rattle.rg_code.specs.declared.code.Entry.{Entry}
 use Rattle.rg_code.specs.declared.op.Op.{Op}
 use Rattle.rg_code.specs.Code.{Code}
 use Rattle.rg_stack.specs.Machine.{Frame, Machine, top_slots, place_of, slots_below}
-use Rattle.rg_stack.specs.Effects.{Work, Walked, Stops, Returns, Traps, Stuck, Go, Act, walk_by, on_top, on_two, pushed, next_taken, opens_at}
+use Rattle.rg_stack.specs.Effects.{Walked, Stops, Returns, Traps, Stuck, Go, Act, walk_by, on_top, on_two, pushed, next_taken, opens_at}
+use Rattle.rg_stack.specs.Tops.{Work}
 use Rattle.rg_stack.specs.Effects.{begins_by, called, returned}
 
 -- a walk that is stuck or traps needs nothing, and the input may be read

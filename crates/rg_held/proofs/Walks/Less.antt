@@ -6,7 +6,8 @@ use Rattle.rg_code.specs.declared.op.Op.{Op}
 use Rattle.rg_code.specs.declared.op.Op.TheVariants as i
 use Rattle.rg_code.specs.Code.{Code}
 use Rattle.rg_stack.specs.Machine.{Machine}
-use Rattle.rg_stack.specs.Effects.{Work, Walked, Stuck, Go, Act, walk_by}
+use Rattle.rg_stack.specs.Effects.{Walked, Stuck, Go, Act, walk_by}
+use Rattle.rg_stack.specs.Tops.{Work}
 use Rattle.rg_stack.specs.Needs.{needs}
 use Rattle.rg_stack.proofs.Callers.Less.{Less, LessFrom, LessAct, SameOrLost, by-need, walk-less-by, step-less-by}
 use Rattle.rg_stack.proofs.Callers.Given.{act-less}

@@ -10,7 +10,7 @@ use Rattle.rg_sound.specs.Fit.{Fit}
 use Rattle.rg_sound.proofs.Law.{step-keeps}
 use Rattle.rg_code.specs.Code.{Code}
 use Rattle.rg_code.specs.Lowering.{Lowers}
-use Rattle.rg_stack.specs.Effects.{Work}
+use Rattle.rg_stack.specs.Tops.{Work}
 use Rattle.rg_stack.specs.Runs.{Stepped, Goes, Ends, Trapped, Lost, Stopped, with_printed, after_step, coded_from, step, opening}
 use Rattle.rg_stack.specs.Simulates.{Holds}
 use Rattle.rg_stack.specs.Left.{SomeLeft}

@@ -4,7 +4,7 @@ use Rattle.rg_base.specs.declared.value.Val.{Val}
 use Rattle.rg_code.specs.declared.op.Op.{Op}
 use Rattle.rg_code.specs.declared.op.Op.TheVariants as i
 use Rattle.rg_stack.specs.Machine.{Machine}
-use Rattle.rg_stack.specs.Effects.{Work}
+use Rattle.rg_stack.specs.Tops.{Work}
 use Rattle.rg_stack.specs.Runs.{Lost, come_to, stopped}
 use Rattle.rg_held.specs.Part.{Part}
 use Rattle.rg_held.specs.Ends.{Match, SameStep}

@@ -8,7 +8,8 @@ use Rattle.rg_code.specs.declared.op.Op.{Op}
 use Rattle.rg_code.specs.declared.op.Op.TheVariants as i
 use Rattle.rg_code.specs.Code.{Code}
 use Rattle.rg_code.specs.Places.{is_mark}
-use Rattle.rg_stack.specs.Effects.{Work, Walked, Stops, Returns, Traps, Stuck, act}
+use Rattle.rg_stack.specs.Effects.{Walked, Stops, Returns, Traps, Stuck, act}
+use Rattle.rg_stack.specs.Tops.{Work}
 use Rattle.rg_stack.specs.Needs.{is_empty, needs}
 use Rattle.rg_stack.specs.Given.{given_walk}
 use Rattle.rg_stack.specs.Refusals.{Manner, Ends, Clears, Settles, Takes, Computes, Prepares, Calls, Chooses, Passes, manner, room_behind, calm_by}

@@ -21,7 +21,8 @@ use Rattle.rg_base.proofs.Callers.Lists.{drop-here}
 use Rattle.rg_code.specs.declared.op.Op.{Op}
 use Rattle.rg_code.specs.declared.op.Op.TheVariants as i
 use Rattle.rg_stack.specs.Machine.{Frame}
-use Rattle.rg_frames.specs.Stack.{Stack, BasesRise, HasRoom, IsTopFrame, has_region, pushed_of, popped, roomed, with_slot}
+use Rattle.rg_frames.specs.Stack.{Stack, has_region}
+use Rattle.rg_frames.specs.Changes.{BasesRise, HasRoom, IsTopFrame, pushed_of, popped, roomed, with_slot}
 use Rattle.rg_heap.specs.Parts.{Parts}
 use Rattle.rg_heap.specs.Answers.{IsClosed, val_of}
 use Rattle.rg_view.specs.Lain.{Nested}

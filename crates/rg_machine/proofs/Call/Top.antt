@@ -8,7 +8,8 @@ use Rattle.rg_base.specs.declared.value.Word.{Word}
 use Rattle.rg_base.specs.declared.value.Word.TheVariants as word
 use Rattle.rg_cells.specs.Table.{Heap}
 use Rattle.rg_frames.specs.declared.rows.Frame.{Frame as FrameRow}
-use Rattle.rg_frames.specs.Stack.{Stack, IsTopFrame}
+use Rattle.rg_frames.specs.Stack.{Stack}
+use Rattle.rg_frames.specs.Changes.{IsTopFrame}
 use Rattle.rg_stack.specs.Machine.{slot_at}
 use Rattle.rg_heap.specs.Parts.{Parts as HeapParts}
 use Rattle.rg_heap.specs.Answers.{val_of}

@@ -17,7 +17,7 @@ use Rattle.rg_regions.specs.Table.{Record, record_at, HasNumber, IsBridge}
 use Rattle.rg_regions.proofs.Callers.Told.{labelled_held}
 use Rattle.rg_frames.specs.declared.rows.Window.{Window as WindowRow}
 use Rattle.rg_frames.specs.Stack.{Stack, IsTop}
-use Rattle.rg_stack.specs.Effects.{top_region}
+use Rattle.rg_stack.specs.Tops.{top_region}
 use Rattle.rg_stack.specs.Needs.{owned_once}
 use Rattle.rg_stack.specs.Labels.{is_open}
 use Rattle.rg_heap.specs.Answers.{AllLead, IsClosed}

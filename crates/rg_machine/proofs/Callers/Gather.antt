@@ -26,8 +26,9 @@ use Rattle.rg_regions.proofs.Callers.Told.{labelled_held}
 use Rattle.rg_frames.specs.declared.rows.Frame.{Frame as FrameRow}
 use Rattle.rg_frames.specs.Stack.{Stack}
 use Rattle.rg_stack.specs.Machine.{Frame, Machine}
-use Rattle.rg_stack.specs.Effects.{top_region, top_window}
-use Rattle.rg_stack.specs.Needs.{field_of, owned_once, value_at}
+use Rattle.rg_stack.specs.Tops.{top_region, top_window}
+use Rattle.rg_stack.specs.Needs.{owned_once}
+use Rattle.rg_stack.specs.Places.{field_of, value_at}
 use Rattle.rg_heap.specs.Answers.{val_of, AllLead, obj_of}
 use Rattle.rg_heap.specs.Collects.{Collects, LostBelow}
 use Rattle.rg_heap.specs.Opened.{Opened}

@@ -8,7 +8,7 @@ use Rattle.rg_cells.specs.declared.cell.Body.{Body}
 use Rattle.rg_cells.specs.Table.{Heap, body_in, high_of, with_body, with_field}
 use Rattle.rg_regions.specs.Grove.{Below}
 use Rattle.rg_frames.specs.Stack.{Stack}
-use Rattle.rg_heap.specs.Answers.{LeadsIntoClosed}
+use Rattle.rg_heap.specs.Reads.{LeadsIntoClosed}
 use Rattle.rg_heap.specs.Changes.{Makes, OnActive}
 use Rattle.rg_heap.specs.Ends.{NoCell, OnRegion, OnSlot, Released}
 use Rattle.rg_heap.specs.Parts.{OnTop, Parts}

@@ -21,10 +21,11 @@ use Rattle.rg_cells.specs.Table.{Heap, body_at}
 use Rattle.rg_regions.specs.Reach.{LiesIn}
 use Rattle.rg_regions.specs.Reach.{Stands as Root}
 use Rattle.rg_frames.specs.Stack.{Stack}
-use Rattle.rg_stack.specs.Effects.{top_region, top_window}
+use Rattle.rg_stack.specs.Tops.{top_region, top_window}
 use Rattle.rg_stack.specs.Machine.{Machine}
-use Rattle.rg_stack.specs.Needs.{field_of, owned_once}
-use Rattle.rg_stack.specs.Needs.{value_at as shown_at}
+use Rattle.rg_stack.specs.Needs.{owned_once}
+use Rattle.rg_stack.specs.Places.{field_of}
+use Rattle.rg_stack.specs.Places.{value_at as shown_at}
 use Rattle.rg_stack.specs.Shows.{sizes_of}
 use Rattle.rg_heap.specs.Answers.{AllLead, val_of}
 use Rattle.rg_heap.specs.Collects.{Collects}

@@ -7,7 +7,8 @@ use Rattle.rg_base.specs.declared.value.Val.{Val}
 use Rattle.rg_code.specs.Code.{empty}
 use Rattle.rg_code.specs.declared.op.Op.TheVariants as i
 use Rattle.rg_stack.specs.Machine.{Frame, Machine, Window, slots_below, top_slots, with_slots, ended_slots}
-use Rattle.rg_stack.specs.Effects.{Work, Returns, Stuck, begins_by, on_top, returned}
+use Rattle.rg_stack.specs.Effects.{Returns, Stuck, begins_by, on_top, returned}
+use Rattle.rg_stack.specs.Tops.{Work}
 use Rattle.rg_stack.specs.Needs.{is_empty, loose, needs, owned_once}
 use Rattle.rg_stack.proofs.Callers.List.{empty-is}
 use Rattle.rg_held.specs.Frees.{free_act, freed, given_up}

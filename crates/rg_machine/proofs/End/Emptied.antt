@@ -6,10 +6,10 @@ use Rattle.rg_base.specs.declared.value.Val.TheVariants.{Nil}
 use Rattle.rg_base.specs.declared.value.Word.{Word}
 use Rattle.rg_cells.specs.Table.{Serials}
 use Rattle.rg_regions.specs.Grove.{Grove}
-use Rattle.rg_frames.specs.Stack.{ended}
+use Rattle.rg_frames.specs.Changes.{ended}
 use Rattle.rg_stack.specs.Machine.{Frame, ended_slots, slot_at, top_slots, with_slots}
 use Rattle.rg_stack.specs.Needs.{closed_into, owned_once}
-use Rattle.rg_heap.specs.Answers.{LeadsIntoClosed}
+use Rattle.rg_heap.specs.Reads.{LeadsIntoClosed}
 use Rattle.rg_machine.specs.Core.{Core, with_machine}
 use Rattle.rg_machine.specs.Effects.{AllLoose, emptied, ending, without}
 use Rattle.rg_machine.specs.Keeps.{backs}

@@ -6,7 +6,8 @@ use Rattle.rg_base.specs.declared.value.Word.{Word}
 use Rattle.rg_base.specs.declared.value.Word.TheVariants.{Nil}
 use Rattle.rg_cells.specs.Table.{Serials}
 use Rattle.rg_regions.specs.Grove.{Grove}
-use Rattle.rg_frames.specs.Stack.{Stack, ended, with_slot}
+use Rattle.rg_frames.specs.Stack.{Stack}
+use Rattle.rg_frames.specs.Changes.{ended, with_slot}
 use Rattle.rg_stack.specs.Machine.{slot_at, top_slots}
 use Rattle.rg_machine.specs.Core.{Core}
 use Rattle.rg_machine.specs.Effects.{ending, without}

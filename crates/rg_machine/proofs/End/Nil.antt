@@ -10,10 +10,11 @@ use Rattle.rg_base.specs.declared.value.Word.{Word}
 use Rattle.rg_base.specs.declared.value.Word.TheVariants.{Nil, Slot}
 use Rattle.rg_cells.specs.Table.{Serials}
 use Rattle.rg_regions.specs.Grove.{Grove}
-use Rattle.rg_frames.specs.Stack.{Stack, InTop, ended, with_slot}
+use Rattle.rg_frames.specs.Stack.{Stack}
+use Rattle.rg_frames.specs.Changes.{InTop, ended, with_slot}
 use Rattle.rg_stack.specs.Machine.{Frame, end_slots, ended_slots, put_slot, slot_at, top_slots, with_slots}
 use Rattle.rg_stack.specs.Needs.{closed_into, owned_once}
-use Rattle.rg_heap.specs.Answers.{LeadsIntoClosed}
+use Rattle.rg_heap.specs.Reads.{LeadsIntoClosed}
 use Rattle.rg_heap.specs.Parts.{Parts as HeapParts}
 use Rattle.rg_view.specs.Lain.{Nested}
 use Rattle.rg_view.specs.View.{frames_of}

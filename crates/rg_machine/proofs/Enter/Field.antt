@@ -25,8 +25,10 @@ use Rattle.rg_frames.specs.Stack.{Stack}
 use Rattle.rg_heap.specs.Parts.{Parts}
 use Rattle.rg_heap.specs.Answers.{val_of}
 use Rattle.rg_stack.specs.Machine.{slot_at, place_of, top_slots}
-use Rattle.rg_stack.specs.Needs.{is_closed, is_empty, is_field, is_writable, field_of, of_object, of_top, owned_once, owns_or_nil}
-use Rattle.rg_stack.specs.Effects.{Go, Stuck, Traps, Walked, address, begins_by, entered, on_object, on_top, top_region}
+use Rattle.rg_stack.specs.Needs.{is_closed, is_empty, of_object, of_top, owned_once, owns_or_nil}
+use Rattle.rg_stack.specs.Places.{is_field, is_writable, field_of}
+use Rattle.rg_stack.specs.Effects.{Go, Stuck, Traps, Walked, address, begins_by, on_object, on_top}
+use Rattle.rg_stack.specs.Tops.{entered, top_region}
 use Rattle.rg_held.specs.Frees.{free_act}
 use Rattle.rg_held.proofs.Lists.{append-left as got-there}
 use Rattle.rg_view.specs.View.{machine_of, object_of, store_of, values_of, windows_of}

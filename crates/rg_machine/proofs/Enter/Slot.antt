@@ -20,7 +20,8 @@ use Rattle.rg_regions.specs.Table.{HasNumber}
 use Rattle.rg_regions.specs.Reach.{LiesIn}
 use Rattle.rg_regions.specs.Grove.{Parent}
 use Rattle.rg_frames.specs.declared.rows.Window.{Window as WindowRow}
-use Rattle.rg_frames.specs.Stack.{Stack, opened, with_slot, has_region}
+use Rattle.rg_frames.specs.Stack.{Stack, has_region}
+use Rattle.rg_frames.specs.Changes.{opened, with_slot}
 use Rattle.rg_heap.specs.Parts.{Parts}
 use Rattle.rg_heap.specs.Answers.{IsClosed}
 use Rattle.rg_heap.specs.Opened.{Opened, IsWindow, IsTempOf}
@@ -49,7 +50,8 @@ use Rattle.rg_regions.specs.Grove.{Grove}
 use Rattle.rg_regions.proofs.Callers.Told.{lies_held as lies-held}
 use Rattle.rg_heap.proofs.Callers.Opens.{open_not_closed}
 use Rattle.rg_stack.specs.Needs.{is_empty, is_closed, owned_once, owns_or_nil}
-use Rattle.rg_stack.specs.Effects.{Go, Traps, begins_by, entered, frame_number, on_object}
+use Rattle.rg_stack.specs.Effects.{Go, Traps, begins_by, on_object}
+use Rattle.rg_stack.specs.Tops.{entered, frame_number}
 use Rattle.rg_held.specs.Frees.{free_act}
 use Rattle.rg_held.proofs.Lists.{set-back, append-left as got-there}
 use Rattle.rg_view.specs.View.{object_of, values_of}

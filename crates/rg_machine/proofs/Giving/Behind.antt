@@ -21,9 +21,11 @@ use Rattle.rg_regions.specs.Grove.{Grove}
 use Rattle.rg_regions.proofs.Callers.Told.{lies_held, lies_or_not, one_region}
 use Rattle.rg_sound.proofs.Owners.Owner.{get-set}
 use Rattle.rg_frames.specs.declared.rows.Window.{Window as WindowRow}
-use Rattle.rg_frames.specs.Stack.{MarksLie, Stack, with_slot}
+use Rattle.rg_frames.specs.Stack.{Stack}
+use Rattle.rg_frames.specs.Changes.{MarksLie, with_slot}
 use Rattle.rg_stack.specs.Machine.{Frame, Machine, put_in_frame, put_slot, top_slots, with_slots}
-use Rattle.rg_stack.specs.Effects.{frame_number, put_at, put_in}
+use Rattle.rg_stack.specs.Effects.{put_at, put_in}
+use Rattle.rg_stack.specs.Tops.{frame_number}
 use Rattle.rg_heap.specs.Parts.{Parts}
 use Rattle.rg_heap.specs.Answers.{obj_of, val_of}
 use Rattle.rg_heap.specs.Ends.{GoesAlong, IsTopTemp, Released}

@@ -16,10 +16,13 @@ use Rattle.rg_rules.specs.Regions.{among, in_regions}
 use Rattle.rg_rules.specs.Values.{is_nil_value}
 use Rattle.rg_code.specs.declared.op.Op.TheVariants as i
 use Rattle.rg_stack.specs.Machine.{Frame, Machine, Window, end_slots, ended_slots, place_of, slot_at, top_slots, with_slots}
-use Rattle.rg_stack.specs.Effects.{frame_number, left, top_owner, top_region, without_top}
+use Rattle.rg_stack.specs.Effects.{left}
+use Rattle.rg_stack.specs.Tops.{frame_number, top_owner, top_region, without_top}
 use Rattle.rg_stack.specs.Labels.{is_into, is_open}
-use Rattle.rg_stack.specs.Needs.{closed_into, closed_of, field_of, is_empty, is_field, is_near, is_writable, may_leave, owned_alone, owned_once}
-use Rattle.rg_stack.specs.Needs.{owner_leads, owner_near, places_into, seen_by_owner, size_of, temps_may_go, top_base, value_at}
+use Rattle.rg_stack.specs.Needs.{closed_into, closed_of, is_empty, may_leave, owned_alone, owned_once}
+use Rattle.rg_stack.specs.Places.{field_of, is_field, is_near, is_writable}
+use Rattle.rg_stack.specs.Needs.{owner_leads, owner_near, places_into, seen_by_owner, temps_may_go}
+use Rattle.rg_stack.specs.Places.{size_of, top_base, value_at}
 use Rattle.rg_held.proofs.Lists.{reverse-cons}
 use Rattle.rg_held.proofs.Places.{into-back, into-label, open-more, region-into, top-open}
 use Rattle.rg_machine.specs.Core.{Core, Has}

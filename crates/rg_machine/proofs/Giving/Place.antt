@@ -22,11 +22,13 @@ use Rattle.rg_regions.specs.Reach.{LiesIn}
 use Rattle.rg_regions.specs.Grove.{Grove}
 use Rattle.rg_regions.proofs.Callers.Told.{one_number}
 use Rattle.rg_frames.specs.declared.rows.Window.{Window as WindowRow}
-use Rattle.rg_frames.specs.Stack.{InTop, IsTop, MarksLie, Stack}
+use Rattle.rg_frames.specs.Stack.{IsTop, Stack}
+use Rattle.rg_frames.specs.Changes.{InTop, MarksLie}
 use Rattle.rg_stack.specs.Machine.{Machine, Window, slot_at}
-use Rattle.rg_stack.specs.Effects.{frame_number, top_owner, top_region, top_window, without_top}
+use Rattle.rg_stack.specs.Tops.{frame_number, top_owner, top_region, top_window, without_top}
 use Rattle.rg_stack.specs.Labels.{has_window, is_into, is_outside}
-use Rattle.rg_stack.specs.Needs.{field_of, fields_into, is_writable, places_into, size_of, slots_into}
+use Rattle.rg_stack.specs.Needs.{fields_into, places_into, slots_into}
+use Rattle.rg_stack.specs.Places.{field_of, is_writable, size_of}
 use Rattle.rg_heap.specs.Parts.{Parts}
 use Rattle.rg_heap.specs.Answers.{val_of}
 use Rattle.rg_heap.specs.Ends.{IsTopTemp}

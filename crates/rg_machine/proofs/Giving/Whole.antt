@@ -14,9 +14,11 @@ use Rattle.rg_code.specs.Code.{empty}
 use Rattle.rg_code.specs.declared.op.Op.TheVariants as i
 use Rattle.rg_cells.specs.Table.{Heap, Serials}
 use Rattle.rg_regions.specs.Grove.{Grove}
-use Rattle.rg_frames.specs.Stack.{MarksLie, Stack}
+use Rattle.rg_frames.specs.Stack.{Stack}
+use Rattle.rg_frames.specs.Changes.{MarksLie}
 use Rattle.rg_stack.specs.Machine.{Machine, Window, slot_at, top_slots}
-use Rattle.rg_stack.specs.Effects.{Go, Traps, beneath_by_labels, left as left_in, on_object, put_at, top_owner}
+use Rattle.rg_stack.specs.Effects.{Go, Traps, beneath_by_labels, left as left_in, on_object, put_at}
+use Rattle.rg_stack.specs.Tops.{top_owner}
 use Rattle.rg_stack.specs.Labels.{is_open}
 use Rattle.rg_stack.specs.Needs.{closed_into, owned_once}
 use Rattle.rg_heap.specs.Parts.{Parts as HeapParts}

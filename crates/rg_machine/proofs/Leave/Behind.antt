@@ -16,7 +16,8 @@ use Rattle.rg_regions.specs.Table.{InTable}
 use Rattle.rg_regions.specs.Reach.{LiesIn}
 use Rattle.rg_regions.specs.Grove.{Grove, Parent, Above, direct, further}
 use Rattle.rg_frames.specs.declared.rows.Window.{Window as WindowRow}
-use Rattle.rg_frames.specs.Stack.{Stack, IsTop, MarksLie, closed, mark, without_temps}
+use Rattle.rg_frames.specs.Stack.{Stack, IsTop, mark}
+use Rattle.rg_frames.specs.Changes.{MarksLie, closed, without_temps}
 use Rattle.rg_stack.specs.Effects.{beneath_by_labels}
 use Rattle.rg_stack.specs.Needs.{owned_once}
 use Rattle.rg_stack.specs.Labels.{is_open}

@@ -8,7 +8,8 @@ use Rattle.rg_regions.specs.Table.{RegionTable}
 use Rattle.rg_frames.specs.declared.rows.Window.{Window as WindowRow}
 use Rattle.rg_frames.specs.Stack.{Stack, IsTop}
 use Rattle.rg_stack.specs.Machine.{Machine, end_slots, top_slots}
-use Rattle.rg_stack.specs.Effects.{Work, beneath_by_labels, with_store, without_top}
+use Rattle.rg_stack.specs.Effects.{beneath_by_labels, with_store}
+use Rattle.rg_stack.specs.Tops.{Work, without_top}
 use Rattle.rg_held.specs.Frees.{bury, closed_among, closed_by_temps, forgotten, freed, left_with, window_that_ends}
 use Rattle.rg_view.specs.Links.{Reached, Spans}
 use Rattle.rg_view.specs.View.{window_of, windows_of}

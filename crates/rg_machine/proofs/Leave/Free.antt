@@ -22,7 +22,7 @@ use Rattle.rg_heap.specs.Parts.{Parts}
 use Rattle.rg_heap.specs.Answers.{val_of}
 use Rattle.rg_heap.specs.Ends.{IsTopTemp}
 use Rattle.rg_stack.specs.Machine.{Frame, Machine}
-use Rattle.rg_stack.specs.Effects.{top_window}
+use Rattle.rg_stack.specs.Tops.{top_window}
 use Rattle.rg_stack.specs.Needs.{is_to_temp, is_top_temp, outlives, temps_may_go}
 use Rattle.rg_stack.specs.Labels.{has_window}
 use Rattle.rg_held.specs.Frees.{bury}

@@ -7,12 +7,15 @@ use Rattle.rg_code.specs.declared.op.Op.TheVariants as i
 use Rattle.rg_cells.specs.Table.{Heap, Serials}
 use Rattle.rg_regions.specs.Grove.{Grove}
 use Rattle.rg_frames.specs.Layers.{Layer, layers}
-use Rattle.rg_frames.specs.Stack.{Stack, MarksLie}
+use Rattle.rg_frames.specs.Stack.{Stack}
+use Rattle.rg_frames.specs.Changes.{MarksLie}
 use Rattle.rg_heap.specs.Ends.{CanLeave, GoesAlong, IsTopTemp, Released}
 use Rattle.rg_heap.specs.Parts.{Parts as HeapParts}
 use Rattle.rg_stack.specs.Machine.{Window, end_slots, place_of, top_slots}
-use Rattle.rg_stack.specs.Effects.{Go, without_top}
-use Rattle.rg_stack.specs.Needs.{is_empty, owned_once, owner_leads, temps_may_go, top_base}
+use Rattle.rg_stack.specs.Effects.{Go}
+use Rattle.rg_stack.specs.Tops.{without_top}
+use Rattle.rg_stack.specs.Needs.{is_empty, owned_once, owner_leads, temps_may_go}
+use Rattle.rg_stack.specs.Places.{top_base}
 use Rattle.rg_stack.proofs.Callers.List.{empty-is}
 use Rattle.rg_held.specs.Frees.{free_act, freed, left_with, window_that_ends}
 use Rattle.rg_view.specs.View.{frame_of, frames_of, machine_of}

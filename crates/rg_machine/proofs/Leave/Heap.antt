@@ -12,13 +12,15 @@ use Rattle.rg_cells.specs.Table.{Heap, Serials, field_at}
 use Rattle.rg_regions.specs.Grove.{Grove}
 use Rattle.rg_frames.specs.declared.rows.Frame.{Frame as FrameRow}
 use Rattle.rg_frames.specs.declared.rows.Window.{Window as WindowRow}
-use Rattle.rg_frames.specs.Stack.{Stack, IsTop, MarksLie}
+use Rattle.rg_frames.specs.Stack.{Stack, IsTop}
+use Rattle.rg_frames.specs.Changes.{MarksLie}
 use Rattle.rg_heap.specs.Parts.{Parts}
 use Rattle.rg_heap.specs.Answers.{val_of}
 use Rattle.rg_heap.specs.Ends.{CanLeave, GoesAlong, IsTopTemp, Released}
 use Rattle.rg_stack.specs.Machine.{ended_slots, place_of, top_slots}
 use Rattle.rg_stack.specs.Effects.{beneath_by_labels}
-use Rattle.rg_stack.specs.Needs.{owned_once, top_base}
+use Rattle.rg_stack.specs.Needs.{owned_once}
+use Rattle.rg_stack.specs.Places.{top_base}
 use Rattle.rg_stack.proofs.Callers.List.{get-nils as nil-there}
 use Rattle.rg_held.specs.Frees.{bury, closed_by_temps}
 use Rattle.rg_view.specs.Lain.{Nested}

@@ -13,7 +13,7 @@ use Rattle.rg_base.specs.declared.value.Val.{Val}
 use Rattle.rg_rules.specs.Regions.{address, among, in_regions, region_at, region_of}
 use Rattle.rg_sound.proofs.LocalRoots.{label-region}
 use Rattle.rg_stack.specs.Machine.{Machine, Window}
-use Rattle.rg_stack.specs.Effects.{top_window}
+use Rattle.rg_stack.specs.Tops.{top_window}
 use Rattle.rg_stack.specs.Needs.{closed_into, closed_of, is_top_temp}
 use Rattle.rg_stack.specs.Labels.{is_open, label_of}
 use Rattle.rg_held.specs.Frees.{buried, bury, closed_among, closed_by_temps}

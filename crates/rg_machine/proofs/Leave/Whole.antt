@@ -12,11 +12,13 @@ use Rattle.rg_code.specs.declared.op.Op.TheVariants as i
 use Rattle.rg_cells.specs.Table.{Heap, Serials, field_at}
 use Rattle.rg_regions.specs.Grove.{Grove}
 use Rattle.rg_frames.specs.declared.rows.Window.{Window as WindowRow}
-use Rattle.rg_frames.specs.Stack.{IsTop, MarksLie}
+use Rattle.rg_frames.specs.Stack.{IsTop}
+use Rattle.rg_frames.specs.Changes.{MarksLie}
 use Rattle.rg_heap.specs.Ends.{GoesAlong, IsTopTemp, Released}
 use Rattle.rg_stack.specs.Machine.{Frame, Machine, end_slots, ended_slots, place_of, top_slots, with_slots}
 use Rattle.rg_stack.specs.Effects.{Go, beneath_by_labels, left as left_in}
-use Rattle.rg_stack.specs.Needs.{is_empty, owned_once, owner_leads, temps_may_go, top_base}
+use Rattle.rg_stack.specs.Needs.{is_empty, owned_once, owner_leads, temps_may_go}
+use Rattle.rg_stack.specs.Places.{top_base}
 use Rattle.rg_stack.proofs.Callers.List.{empty-is}
 use Rattle.rg_held.specs.Frees.{closed_among, closed_by_temps, free_act, freed, left_with, window_that_ends}
 use Rattle.rg_view.specs.Links.{Spans}

@@ -16,7 +16,8 @@ use Rattle.rg_regions.specs.Reach.{LiesIn}
 use Rattle.rg_regions.specs.Grove.{Parent, Grove}
 use Rattle.rg_move.specs.Frozen.{labelled}
 use Rattle.rg_frames.specs.declared.rows.Window.{Window as WindowRow}
-use Rattle.rg_frames.specs.Stack.{Stack, with_slot}
+use Rattle.rg_frames.specs.Stack.{Stack}
+use Rattle.rg_frames.specs.Changes.{with_slot}
 use Rattle.rg_stack.specs.Labels.{is_open}
 use Rattle.rg_heap.specs.Parts.{Parts}
 use Rattle.rg_heap.specs.Answers.{IsClosed}

@@ -23,9 +23,11 @@ use Rattle.rg_rules.specs.Regions.{region_of, relabelled}
 use Rattle.rg_cells.specs.declared.cell.Body.{Body}
 use Rattle.rg_cells.specs.Table.{body_at, Serials}
 use Rattle.rg_regions.specs.Grove.{Grove}
-use Rattle.rg_frames.specs.Stack.{Stack, with_slot}
+use Rattle.rg_frames.specs.Stack.{Stack}
+use Rattle.rg_frames.specs.Changes.{with_slot}
 use Rattle.rg_stack.specs.Machine.{Frame, Machine, put_slot, slot_at, top_slots}
-use Rattle.rg_stack.specs.Effects.{Go, Traps, Walked, Work, on_object, relabel, stored, top_region, with_store}
+use Rattle.rg_stack.specs.Effects.{Go, Traps, Walked, on_object, relabel, stored, with_store}
+use Rattle.rg_stack.specs.Tops.{Work, top_region}
 use Rattle.rg_stack.specs.Needs.{is_closed, owned_once, owns_or_nil}
 use Rattle.rg_heap.specs.Parts.{Parts}
 use Rattle.rg_heap.specs.Answers.{val_of}

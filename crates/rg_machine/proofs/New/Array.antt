@@ -14,7 +14,8 @@ use Rattle.rg_base.specs.declared.value.Word.TheVariants as word
 use Rattle.rg_base.specs.declared.words.Manager.{Manager}
 use Rattle.rg_rules.specs.RightSides.{array_size}
 use Rattle.rg_stack.specs.Machine.{Machine, value_of_word}
-use Rattle.rg_stack.specs.Effects.{Go, Traps, opening_element, top_region, top_window, with_store}
+use Rattle.rg_stack.specs.Effects.{Go, Traps, opening_element, with_store}
+use Rattle.rg_stack.specs.Tops.{top_region, top_window}
 use Rattle.rg_code.specs.Code.{Code}
 use Rattle.rg_stack.specs.Needs.{is_closed, leads_nowhere, of_top, opens_plain}
 use Rattle.rg_stack.specs.Refusals.{Takes}

@@ -15,9 +15,10 @@ use Rattle.rg_cells.specs.Table.{Serials, label_at, IsHeld}
 use Rattle.rg_regions.specs.Table.{IsBridge}
 use Rattle.rg_regions.specs.Grove.{Grove}
 use Rattle.rg_frames.specs.declared.rows.Window.{Window}
-use Rattle.rg_frames.specs.Stack.{Stack, IsTop, MarksLie, with_temp}
+use Rattle.rg_frames.specs.Stack.{Stack, IsTop}
+use Rattle.rg_frames.specs.Changes.{MarksLie, with_temp}
 use Rattle.rg_stack.specs.Machine.{Machine, value_of_word}
-use Rattle.rg_stack.specs.Effects.{top_region, top_window}
+use Rattle.rg_stack.specs.Tops.{top_region, top_window}
 use Rattle.rg_heap.specs.Parts.{Parts, OnTop}
 use Rattle.rg_heap.specs.Answers.{AllLead as FieldsLead, val_of, obj_of, IsClosed}
 use Rattle.rg_heap.specs.Changes.{LeadsNowhere, Makes, OnActive, OpensOne, Rewritten, with_one}

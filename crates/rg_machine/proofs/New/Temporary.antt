@@ -12,7 +12,8 @@ use Rattle.rg_sound.proofs.Frames.Stands.{snoc-cases as in-front-or}
 use Rattle.rg_cells.specs.Table.{IsHeld}
 use Rattle.rg_regions.proofs.Callers.Told.{labelled_held}
 use Rattle.rg_frames.specs.declared.rows.Window.{Window}
-use Rattle.rg_frames.specs.Stack.{Stack, MarksLie, with_temp}
+use Rattle.rg_frames.specs.Stack.{Stack}
+use Rattle.rg_frames.specs.Changes.{MarksLie, with_temp}
 use Rattle.rg_frames.proofs.Unwriting.{got-longer}
 use Rattle.rg_heap.specs.Parts.{Parts}
 use Rattle.rg_heap.specs.Opened.{IsWindow, IsTempOf}

@@ -19,7 +19,8 @@ use Rattle.rg_regions.specs.Grove.{Grove, Below}
 use Rattle.rg_stack.specs.Effects.{beneath_by_labels}
 use Rattle.rg_stack.specs.Needs.{places_into, owned_once, loose, closed_into}
 use Rattle.rg_heap.specs.Parts.{Parts as HeapParts}
-use Rattle.rg_heap.specs.Answers.{val_of, LeadsIntoClosed}
+use Rattle.rg_heap.specs.Answers.{val_of}
+use Rattle.rg_heap.specs.Reads.{LeadsIntoClosed}
 use Rattle.rg_heap.specs.Ends.{Released, NoCell, OnSlot, OnRegion}
 use Rattle.rg_heap.specs.Writes.{Ownerless}
 use Rattle.rg_held.specs.Frees.{is_temp, bury, closed_among, forgotten}

@@ -16,7 +16,8 @@ use Rattle.rg_base.specs.declared.value.Val.TheVariants.{Nil}
 use Rattle.rg_base.specs.declared.words.Manager.TheVariants.{Arena}
 use Rattle.rg_rules.specs.Regions.{address, in_regions}
 use Rattle.rg_stack.specs.Machine.{Frame, Window, Machine, top_slots, with_slots, slot_at, put_slot, ended_slots, end_slots}
-use Rattle.rg_stack.specs.Effects.{beneath_by_labels, left, without_top}
+use Rattle.rg_stack.specs.Effects.{beneath_by_labels, left}
+use Rattle.rg_stack.specs.Tops.{without_top}
 use Rattle.rg_stack.specs.Needs.{closed_of, closed_into, slots_into, fields_into, places_into}
 use Rattle.rg_stack.specs.Labels.{is_open, label_of, lies_in, is_into, is_outside}
 use Rattle.rg_stack.specs.Needs.{all_below, owned_once, loose}

@@ -10,7 +10,8 @@ use Rattle.rg_code.specs.Code.{empty}
 use Rattle.rg_code.specs.declared.op.Op.TheVariants as i
 use Rattle.rg_held.specs.Frees.{free_act}
 use Rattle.rg_stack.specs.Machine.{Frame, Machine, place_of, put_slot, slot_at, top_slots, with_slots}
-use Rattle.rg_stack.specs.Needs.{is_empty, is_open_label, leads_open, loose, may_keep, owned_once, owns_or_nil, size_of, top_base}
+use Rattle.rg_stack.specs.Needs.{is_empty, is_open_label, leads_open, loose, may_keep, owned_once, owns_or_nil}
+use Rattle.rg_stack.specs.Places.{size_of, top_base}
 use Rattle.rg_stack.specs.Labels.{label_of}
 use Rattle.rg_stack.proofs.Callers.List.{empty-is}
 use Rattle.rg_machine.specs.declared.next.Next.TheVariants as next

@@ -4,7 +4,8 @@ use Rattle.rg_base.specs.declared.value.Word.{Word}
 use Rattle.rg_cells.specs.Table.{body_at, width, with_field}
 use Rattle.rg_code.specs.declared.op.Op.TheVariants as i
 use Rattle.rg_heap.specs.Parts.{Parts}
-use Rattle.rg_heap.specs.Writes.{InActive, IsTemp, Stays}
+use Rattle.rg_heap.specs.Writes.{InActive, Stays}
+use Rattle.rg_heap.specs.Ends.{IsTemp}
 use Rattle.rg_stack.specs.Effects.{put_element, put_in}
 use Rattle.rg_view.proofs.Callers.Instructions.{can-write}
 use Rattle.rg_machine.specs.Among.{IsAmong}

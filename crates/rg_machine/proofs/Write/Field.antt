@@ -19,8 +19,10 @@ use Rattle.rg_frames.specs.declared.rows.Window.{Window as WindowRow}
 use Rattle.rg_frames.specs.Stack.{Stack}
 use Rattle.rg_code.specs.declared.op.Op.TheVariants as i
 use Rattle.rg_rules.specs.Evaluation.{object_at}
-use Rattle.rg_stack.specs.Effects.{put_in, top_window}
-use Rattle.rg_stack.specs.Needs.{field_of, is_closed, is_field, is_writable, may_stand}
+use Rattle.rg_stack.specs.Effects.{put_in}
+use Rattle.rg_stack.specs.Tops.{top_window}
+use Rattle.rg_stack.specs.Needs.{is_closed, may_stand}
+use Rattle.rg_stack.specs.Places.{field_of, is_field, is_writable}
 use Rattle.rg_stack.specs.Labels.{is_open}
 use Rattle.rg_stack.proofs.Basics.{and-left, and-right}
 use Rattle.rg_heap.specs.Parts.{Parts}

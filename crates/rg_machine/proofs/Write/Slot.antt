@@ -13,9 +13,11 @@ use Rattle.rg_cells.specs.Table.{Heap, Serials, IsHeld}
 use Rattle.rg_regions.specs.Table.{IsBridge}
 use Rattle.rg_regions.specs.Reach.{LiesIn}
 use Rattle.rg_regions.specs.Grove.{Grove}
-use Rattle.rg_frames.specs.Stack.{Stack, BasesRise, with_slot}
+use Rattle.rg_frames.specs.Stack.{Stack}
+use Rattle.rg_frames.specs.Changes.{BasesRise, with_slot}
 use Rattle.rg_stack.specs.Machine.{Frame, Machine, place_of, put_slot, with_slots}
-use Rattle.rg_stack.specs.Needs.{is_open_label, leads_open, may_keep, top_base}
+use Rattle.rg_stack.specs.Needs.{is_open_label, leads_open, may_keep}
+use Rattle.rg_stack.specs.Places.{top_base}
 use Rattle.rg_stack.specs.Labels.{is_open}
 use Rattle.rg_heap.specs.Parts.{Parts}
 use Rattle.rg_heap.specs.Answers.{val_of}

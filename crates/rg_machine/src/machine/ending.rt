@@ -5,7 +5,7 @@ ghost use Rattle.std.specs.Prelude.{true, false};
 ghost use Rattle.rg_base.specs.declared.value.Val.TheVariants.{Nil};
 ghost use Rattle.rg_base.specs.declared.value.Word.TheVariants.{Nil as NilWord};
 ghost use Rattle.rg_code.specs.declared.op.Op.TheVariants as i;
-ghost use Rattle.rg_frames.specs.Stack.{ended, with_slot};
+ghost use Rattle.rg_frames.specs.Changes.{ended, with_slot};
 ghost use Rattle.rg_stack.specs.Machine.{put_slot, slot_at, top_slots};
 ghost use Rattle.rg_stack.specs.Needs.{loose, owned_once};
 ghost use Rattle.rg_machine.specs.Acts.{Does};

@@ -2,7 +2,7 @@
 
 ghost use Rattle.std.specs.Prelude.{◌≡◌, ◌<◌, ◌⊎◌, IfSome, None, false, length, true};
 ghost use Rattle.rg_base.specs.declared.value.Word.{Word as WordOf};
-ghost use Rattle.rg_frames.specs.Stack.{BaseUpTo};
+ghost use Rattle.rg_frames.specs.Changes.{BaseUpTo};
 ghost use Rattle.rg_machine.specs.Acts.{Does};
 ghost use Rattle.rg_machine.specs.Frames.{can_open};
 ghost use Rattle.rg_stack.specs.Machine.{place_of, slot_at};

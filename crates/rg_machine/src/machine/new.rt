@@ -3,7 +3,7 @@
 ghost use Rattle.std.specs.Prelude.{◌≡◌, ◌∷◌, ◌++◌, [], OnErr, OnOk, length, map, true};
 ghost use Rattle.rg_base.specs.declared.object.Label.TheVariants.{Region, Temp};
 ghost use Rattle.rg_stack.specs.Machine.{value_of_word};
-ghost use Rattle.rg_stack.specs.Effects.{top_region, top_window};
+ghost use Rattle.rg_stack.specs.Tops.{top_region, top_window};
 ghost use Rattle.rg_stack.specs.Needs.{leads_nowhere};
 ghost use Rattle.rg_machine.specs.Core.{with_machine, with_made};
 ghost use Rattle.rg_machine.specs.Parts.{machine_in};

@@ -16,7 +16,7 @@ use Rattle.rg_sound.proofs.Owners.Window.{covers-not}
 use Rattle.rg_code.specs.Code.{Code}
 use Rattle.rg_stack.specs.Machine.{Machine, Frame, Window, top_slots, slots_below, place_of}
 use Rattle.rg_stack.specs.Effects.{Walked, Stuck, begins_by, opens_at}
-use Rattle.rg_stack.specs.Needs.{top_base}
+use Rattle.rg_stack.specs.Places.{top_base}
 use Rattle.rg_stack.specs.Shows.{ShowsFrame, ShowsFrames, ShowsWindows, place_among, sizes_of}
 use Rattle.rg_stack.proofs.Callers.Frame.{place_below}
 use Rattle.rg_stack.proofs.Walks.End.{EndsAs}

@@ -12,7 +12,7 @@ use Rattle.rg_base.specs.declared.words.Manager.{Manager}
 use Rattle.rg_rules.specs.Items.{Item}
 use Rattle.rg_rules.specs.State.{Local, State, Frame as Body, Window as Opened}
 use Rattle.rg_stack.specs.Machine.{Frame, Window}
-use Rattle.rg_stack.specs.Effects.{Work}
+use Rattle.rg_stack.specs.Tops.{Work}
 use Rattle.rg_stack.specs.Shows.{ShowsWindows, place_among}
 
 -- a slot that is named is there

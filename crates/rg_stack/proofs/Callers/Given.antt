@@ -14,7 +14,8 @@ use Rattle.rg_rules.specs.Values.{Computed, as_bool, operate}
 use Rattle.rg_code.specs.declared.op.Op.TheVariants as i
 use Rattle.rg_code.specs.Code.{Code}
 use Rattle.rg_stack.specs.Machine.{Machine, top_slots, place_of}
-use Rattle.rg_stack.specs.Effects.{Work, Walked, Traps, Stuck, Go, on_top, on_two, pushed, next_taken, opens_at, begins_by, act}
+use Rattle.rg_stack.specs.Effects.{Walked, Traps, Stuck, Go, on_top, on_two, pushed, next_taken, opens_at, begins_by, act}
+use Rattle.rg_stack.specs.Tops.{Work}
 use Rattle.rg_stack.specs.Runs.{step}
 use Rattle.rg_stack.specs.Needs.{needs}
 use Rattle.rg_stack.specs.Given.{given_act, given_step}

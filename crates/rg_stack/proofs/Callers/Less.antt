@@ -5,7 +5,8 @@ use Rattle.rg_base.specs.declared.value.Val.{Val}
 use Rattle.rg_code.specs.declared.op.Op.{Op}
 use Rattle.rg_code.specs.declared.op.Op.TheVariants as i
 use Rattle.rg_code.specs.Code.{Code}
-use Rattle.rg_stack.specs.Effects.{Work, Walked, Stops, Returns, Traps, Stuck, Go, Act, walk_by}
+use Rattle.rg_stack.specs.Effects.{Walked, Stops, Returns, Traps, Stuck, Go, Act, walk_by}
+use Rattle.rg_stack.specs.Tops.{Work}
 use Rattle.rg_stack.specs.Runs.{Stepped, Lost, landed, finished_by, step_from_by, step_by}
 
 -- the first is stuck, or both are the same

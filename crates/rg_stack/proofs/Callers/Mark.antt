@@ -15,7 +15,8 @@ use Rattle.rg_code.specs.Code.{Code}
 use Rattle.rg_code.specs.Lowering.{Scope, slot_of, kind_code}
 use Rattle.rg_code.specs.Places.{Stands, is_mark, scope_of, Level, Lies}
 use Rattle.rg_sound.proofs.Basics.{none-some}
-use Rattle.rg_stack.specs.Effects.{Work, Stops}
+use Rattle.rg_stack.specs.Effects.{Stops}
+use Rattle.rg_stack.specs.Tops.{Work}
 use Rattle.rg_stack.specs.Given.{given_walk as walk}
 
 -- what stands at an address is the front of the code there

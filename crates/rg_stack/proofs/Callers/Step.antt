@@ -15,7 +15,7 @@ use Rattle.rg_sound.proofs.Law.{step-keeps}
 use Rattle.rg_code.specs.Code.{Code}
 use Rattle.rg_code.specs.Lowering.{lowered}
 use Rattle.rg_stack.specs.Machine.{Machine}
-use Rattle.rg_stack.specs.Effects.{Work}
+use Rattle.rg_stack.specs.Tops.{Work}
 use Rattle.rg_stack.specs.Runs.{Stepped, Goes, Ends, Trapped, Lost, step}
 use Rattle.rg_stack.specs.Shows.{Shows}
 use Rattle.rg_stack.specs.Simulates.{Holds, Reached, SameStep}

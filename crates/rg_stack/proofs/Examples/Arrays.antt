@@ -15,7 +15,8 @@ use Rattle.rg_code.specs.declared.op.Op.TheVariants as i
 use Rattle.rg_code.specs.Code.{Code}
 use Rattle.rg_code.specs.Lowering.{lowered}
 use Rattle.rg_stack.specs.Machine.{Machine}
-use Rattle.rg_stack.specs.Effects.{Work, Walked, Returns, Traps, Stuck, act}
+use Rattle.rg_stack.specs.Effects.{Walked, Returns, Traps, Stuck, act}
+use Rattle.rg_stack.specs.Tops.{Work}
 use Rattle.rg_stack.specs.Needs.{needs}
 use Rattle.rg_stack.specs.Runs.{Stopped, coded_from, coded}
 use Rattle.rg_stack.proofs.Examples.Instructions.{machine_of, frame, work_of, entered}

@@ -13,7 +13,8 @@ use Rattle.rg_code.specs.declared.op.Op.{Op}
 use Rattle.rg_code.specs.declared.op.Op.TheVariants as i
 use Rattle.rg_code.specs.Code.{Code}
 use Rattle.rg_stack.specs.Machine.{Frame, Window, Machine}
-use Rattle.rg_stack.specs.Effects.{Work, Walked, Stops, Returns, Traps, Stuck, act}
+use Rattle.rg_stack.specs.Effects.{Walked, Stops, Returns, Traps, Stuck, act}
+use Rattle.rg_stack.specs.Tops.{Work}
 
 -- an object of class 0, with a number and a reference
 abbrev seen : ℕ → Val → Label → Seen

@@ -47,7 +47,8 @@ use Rattle.rg_stack.specs.Machine.{Frame as Shown, slots_below}
 use Rattle.rg_stack.specs.Given.{given_step as step}
 use Rattle.rg_stack.proofs.Mirrors.{Mirrors}
 use Rattle.rg_stack.specs.Shows.{ShowsFrames, ShowsWindows, sizes_of}
-use Rattle.rg_stack.specs.Needs.{needs, owned_once, loose, top_base}
+use Rattle.rg_stack.specs.Needs.{needs, owned_once, loose}
+use Rattle.rg_stack.specs.Places.{top_base}
 use Rattle.rg_stack.proofs.Mirrors.{SameMove}
 use Rattle.rg_stack.proofs.Walks.Place.{GoesOn}
 use Rattle.rg_stack.proofs.Callers.Frame.{OpenedBelow, windows_below}

@@ -17,7 +17,8 @@ use Rattle.rg_sound.proofs.Writable.{writable-live}
 use Rattle.rg_code.specs.declared.op.Op.TheVariants as i
 use Rattle.rg_code.specs.Lowering.{lowered, slot_of}
 use Rattle.rg_stack.specs.Machine.{Frame, Window, slots_below, end_slots, slot_at}
-use Rattle.rg_stack.specs.Needs.{needs, owned_once, temps_may_go, owner_leads, top_base, seen_by_owner}
+use Rattle.rg_stack.specs.Needs.{needs, owned_once, temps_may_go, owner_leads, seen_by_owner}
+use Rattle.rg_stack.specs.Places.{top_base}
 use Rattle.rg_stack.specs.Shows.{ShowsWindows, sizes_of}
 use Rattle.rg_stack.specs.Left.{SomeLeft}
 use Rattle.rg_stack.specs.Given.{given_step as step}
@@ -40,7 +41,7 @@ use Rattle.rg_stack.proofs.Callers.Left.{do-other, leave-other, back-other, runn
 use Rattle.rg_rules.specs.Values.{is_nil_value}
 use Rattle.rg_sound.specs.Bridges.{BridgesFit}
 use Rattle.rg_code.specs.Places.{scope_of}
-use Rattle.rg_stack.specs.Effects.{top_region}
+use Rattle.rg_stack.specs.Tops.{top_region}
 use Rattle.rg_stack.specs.Labels.{is_into}
 
 -- what both machines have

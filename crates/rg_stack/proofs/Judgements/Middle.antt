@@ -58,9 +58,11 @@ use Rattle.rg_code.specs.Lowering.{slot_of, type_in, assign_op}
 use Rattle.rg_code.specs.Places.{scope_of}
 use Rattle.rg_stack.specs.Machine.{Window, Machine, slot_at, slots_below}
 use Rattle.rg_stack.specs.Shows.{ShowsFrames, ShowsWindows, sizes_of}
-use Rattle.rg_stack.specs.Needs.{needs, is_writable, closed_of, is_closed, owned_once, owns_or_nil, loose, size_of, field_of, is_field, may_stand}
+use Rattle.rg_stack.specs.Needs.{needs, closed_of, is_closed, owned_once, owns_or_nil, loose, may_stand}
+use Rattle.rg_stack.specs.Places.{is_writable, size_of, field_of, is_field}
 use Rattle.rg_stack.specs.Labels.{is_open}
-use Rattle.rg_stack.specs.Needs.{top_base, may_keep}
+use Rattle.rg_stack.specs.Needs.{may_keep}
+use Rattle.rg_stack.specs.Places.{top_base}
 use Rattle.rg_stack.proofs.Callers.Lead.{ShowsFit}
 use Rattle.rg_stack.proofs.Callers.Once.{owned_once-fits, loose-fits}
 use Rattle.rg_stack.proofs.Needs.Closed.{slot-closed, behind-closed, slot-owns, field-owns}

@@ -37,7 +37,8 @@ use Rattle.rg_sound.proofs.Values.Label.{windows_of-open}
 use Rattle.rg_sound.proofs.Writable.{top-live}
 use Rattle.rg_stack.specs.Machine.{Frame, Machine, top_slots, slot_at}
 use Rattle.rg_stack.specs.Shows.{ShowsFrames}
-use Rattle.rg_stack.specs.Needs.{is_closed, owns_or_nil, field_of}
+use Rattle.rg_stack.specs.Needs.{is_closed, owns_or_nil}
+use Rattle.rg_stack.specs.Places.{field_of}
 use Rattle.rg_stack.specs.Labels.{is_open}
 use Rattle.rg_stack.proofs.Callers.List.{refused, get-nils}
 use Rattle.rg_stack.proofs.Callers.Lead.{ShowsFit, LeadsInto, IntoClosed, not-closed, into-closed, shown-closed, open-shown, value-owns}

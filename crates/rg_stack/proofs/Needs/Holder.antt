@@ -24,9 +24,10 @@ use Rattle.rg_sound.specs.Objects.{RegionFieldFits, FieldFits, ArrayFits, Object
 use Rattle.rg_sound.proofs.Basics.{none-some}
 use Rattle.rg_sound.proofs.Owners.Receiver.{IsTop, field-leads as leads-field}
 use Rattle.rg_stack.specs.Machine.{Window, Machine}
-use Rattle.rg_stack.specs.Effects.{top_region, top_window}
+use Rattle.rg_stack.specs.Tops.{top_region, top_window}
 use Rattle.rg_stack.specs.Shows.{ShowsWindows}
-use Rattle.rg_stack.specs.Needs.{is_closed, is_writable, is_field, may_stand, field_of}
+use Rattle.rg_stack.specs.Needs.{is_closed, may_stand}
+use Rattle.rg_stack.specs.Places.{is_writable, is_field, field_of}
 use Rattle.rg_stack.specs.Labels.{is_open, has_window, is_outside}
 use Rattle.rg_stack.proofs.Callers.Lead.{ShowsFit, not-closed, field-leads}
 use Rattle.rg_stack.proofs.Needs.Closed.{none-owned, not_iso-closed}

@@ -20,7 +20,8 @@ use Rattle.rg_sound.proofs.Owners.Open.{open-owned}
 use Rattle.rg_sound.proofs.Values.Right.{OwnsFreshAs}
 use Rattle.rg_stack.specs.Machine.{Window, Machine, place_of}
 use Rattle.rg_stack.specs.Effects.{begins_by}
-use Rattle.rg_stack.specs.Needs.{top_base, is_open_label, leads_open, may_keep}
+use Rattle.rg_stack.specs.Needs.{is_open_label, leads_open, may_keep}
+use Rattle.rg_stack.specs.Places.{top_base}
 use Rattle.rg_stack.specs.Labels.{is_open}
 use Rattle.rg_stack.proofs.Callers.List.{refused}
 use Rattle.rg_stack.proofs.Callers.Lead.{ShowsFit, LeadsInto, open-shown}

@@ -16,7 +16,8 @@ use Rattle.rg_sound.proofs.Owners.Data.{Data}
 use Rattle.rg_sound.proofs.Owners.Leave.{leaving}
 use Rattle.rg_stack.specs.Machine.{Frame, Machine, top_slots, with_slots, ended_slots, end_slots, Window, slot_at}
 use Rattle.rg_stack.specs.Shows.{ShowsFrames, ShowsWindows}
-use Rattle.rg_stack.specs.Needs.{temps_may_go, owner_leads, places_into, is_field, is_near, is_writable, owned_alone, owner_near}
+use Rattle.rg_stack.specs.Needs.{temps_may_go, owner_leads, places_into, owned_alone, owner_near}
+use Rattle.rg_stack.specs.Places.{is_field, is_near, is_writable}
 use Rattle.rg_stack.specs.Needs.{seen_by_owner}
 use Rattle.rg_stack.proofs.Statements.Block.{shows_ended}
 use Rattle.rg_stack.proofs.Callers.Lead.{ShowsFit, open-shown, leads-is_into}
@@ -43,7 +44,8 @@ use Rattle.rg_sound.proofs.Owners.Window.{pop-window}
 use Rattle.rg_sound.proofs.Basics.{none-some}
 use Rattle.rg_code.specs.Lowering.{slot_of}
 use Rattle.rg_code.specs.Places.{scope_of}
-use Rattle.rg_stack.specs.Effects.{frame_number, left, without_top, top_region, top_owner, top_window}
+use Rattle.rg_stack.specs.Effects.{left}
+use Rattle.rg_stack.specs.Tops.{frame_number, without_top, top_region, top_owner, top_window}
 use Rattle.rg_stack.specs.Labels.{is_open, is_into}
 use Rattle.rg_stack.proofs.Callers.List.{refused}
 use Rattle.rg_stack.proofs.Callers.Once.{places-one}

@@ -25,7 +25,8 @@ use Rattle.rg_sound.proofs.Basics.{none-some}
 use Rattle.rg_sound.proofs.Owners.Owner.{get-snoc-other, frame_at-top, frame_at-lower}
 use Rattle.rg_stack.specs.Machine.{Frame, Window, Machine}
 use Rattle.rg_stack.specs.Shows.{ShowsFrame, ShowsFrames, ShowsWindows}
-use Rattle.rg_stack.specs.Needs.{field_of, value_at, owner_leads}
+use Rattle.rg_stack.specs.Needs.{owner_leads}
+use Rattle.rg_stack.specs.Places.{field_of, value_at}
 use Rattle.rg_stack.specs.Labels.{is_into}
 use Rattle.rg_stack.proofs.Callers.Lead.{ShowsFit, LeadsInto, leads-is_into}
 use Rattle.rg_stack.proofs.Callers.Mark.{shown-at}

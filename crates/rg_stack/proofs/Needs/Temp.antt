@@ -28,7 +28,7 @@ use Rattle.rg_sound.proofs.Owners.Window.{covers-not, FramesInFront, rising-belo
 use Rattle.rg_sound.proofs.Stores.Member.{In}
 use Rattle.rg_sound.proofs.Values.Label.{windows_of-open, windows_from-open}
 use Rattle.rg_stack.specs.Machine.{Frame, Window, Machine}
-use Rattle.rg_stack.specs.Effects.{top_window}
+use Rattle.rg_stack.specs.Tops.{top_window}
 use Rattle.rg_stack.specs.Shows.{ShowsFrames, ShowsWindows}
 use Rattle.rg_stack.specs.Needs.{is_top_temp, is_to_temp, outlives, temps_may_go}
 use Rattle.rg_stack.specs.Labels.{has_window}

@@ -30,8 +30,10 @@ use Rattle.rg_code.specs.Lowering.{Scope, with_slot, slot_of, type_in, path_code
 use Rattle.rg_code.specs.Lowering.{assign_op}
 use Rattle.rg_code.specs.Places.{scope_of, Level, Lies}
 use Rattle.rg_stack.specs.Machine.{Machine, put_slot, slots_below}
-use Rattle.rg_stack.specs.Effects.{Work, Walked, Traps, Stuck, put_in, with_value_in, place_named, put_element}
-use Rattle.rg_stack.specs.Needs.{needs, is_closed, top_base, may_keep}
+use Rattle.rg_stack.specs.Effects.{Walked, Traps, Stuck, put_in, with_value_in, place_named, put_element}
+use Rattle.rg_stack.specs.Tops.{Work}
+use Rattle.rg_stack.specs.Needs.{needs, is_closed, may_keep}
+use Rattle.rg_stack.specs.Places.{top_base}
 use Rattle.rg_stack.specs.Given.{given_step as step, given_walk as walk}
 use Rattle.rg_stack.proofs.Mirrors.{Mirrors}
 use Rattle.rg_stack.specs.Shows.{levels_of}

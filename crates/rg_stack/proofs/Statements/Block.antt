@@ -23,7 +23,8 @@ use Rattle.rg_code.specs.Places.{StandsIn, is_mark, behind_end, scope_of, Level,
 use Rattle.rg_stack.specs.Given.{given_step as step, given_step_from as step_from, given_walk as walk}
 use Rattle.rg_stack.proofs.Basics.{is_halt}
 use Rattle.rg_stack.specs.Machine.{ended_slots}
-use Rattle.rg_stack.specs.Effects.{Work, Walked, Stops, Stuck}
+use Rattle.rg_stack.specs.Effects.{Walked, Stops, Stuck}
+use Rattle.rg_stack.specs.Tops.{Work}
 use Rattle.rg_stack.specs.Needs.{is_closed, owned_once}
 use Rattle.rg_stack.proofs.Mirrors.{Mirrors}
 use Rattle.rg_stack.specs.Shows.{levels_of}

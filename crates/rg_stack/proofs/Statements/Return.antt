@@ -21,8 +21,10 @@ use Rattle.rg_code.specs.Code.{Code}
 use Rattle.rg_code.specs.Lowering.{with_slot, slot_of, used_slots, whole_code, assign_op}
 use Rattle.rg_code.specs.Places.{is_drop, scope_of, Lies, TakesResult}
 use Rattle.rg_stack.specs.Machine.{Frame, Window, Machine, slots_below, place_of}
-use Rattle.rg_stack.specs.Needs.{needs, is_closed, owned_once, loose, top_base, may_keep}
-use Rattle.rg_stack.specs.Effects.{Returns, Stuck, begins_by, Work}
+use Rattle.rg_stack.specs.Needs.{needs, is_closed, owned_once, loose, may_keep}
+use Rattle.rg_stack.specs.Places.{top_base}
+use Rattle.rg_stack.specs.Effects.{Returns, Stuck, begins_by}
+use Rattle.rg_stack.specs.Tops.{Work}
 use Rattle.rg_stack.specs.Runs.{landed}
 use Rattle.rg_stack.specs.Given.{given_finished as finished, given_step as step, given_step_from as step_from, given_walk as walk}
 use Rattle.rg_stack.proofs.Mirrors.{Mirrors}

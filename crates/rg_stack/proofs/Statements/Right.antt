@@ -32,7 +32,8 @@ use Rattle.rg_code.specs.declared.op.Op.TheVariants as i
 use Rattle.rg_code.specs.Code.{Code}
 use Rattle.rg_code.specs.Lowering.{Scope, slot_of, used_slots, expr_code, new_code, right_code, pace_code, opening_word, opening_words, opening_of}
 use Rattle.rg_stack.specs.Machine.{Window, value_of_word}
-use Rattle.rg_stack.specs.Effects.{beneath_by_labels, Work, Traps, Stuck, with_value, opening_element, top_region, top_window, relabel}
+use Rattle.rg_stack.specs.Effects.{beneath_by_labels, Traps, Stuck, with_value, opening_element, relabel}
+use Rattle.rg_stack.specs.Tops.{Work, top_region, top_window}
 use Rattle.rg_stack.specs.Effects.{next_taken}
 use Rattle.rg_stack.specs.Needs.{needs, is_closed, owned_once, leads_nowhere, opens_plain}
 use Rattle.rg_stack.specs.Shows.{ShowsWindows}

@@ -33,7 +33,8 @@ use Rattle.rg_code.specs.Lowering.{kind_code, block_code}
 use Rattle.rg_code.specs.Places.{Stands, StandsIn, is_mark, roomy, scope_of, Level, Lies}
 use Rattle.rg_stack.specs.Machine.{Frame, Window, put_in_frame, slots_below, ended_slots}
 use Rattle.rg_stack.specs.Needs.{needs}
-use Rattle.rg_stack.specs.Effects.{opens_at, begins_by, Walked, Stops, Traps, Stuck, put_in, with_value_in, put_at, entered, address as slot_address}
+use Rattle.rg_stack.specs.Effects.{opens_at, begins_by, Walked, Stops, Traps, Stuck, put_in, with_value_in, put_at, address as slot_address}
+use Rattle.rg_stack.specs.Tops.{entered}
 use Rattle.rg_stack.specs.Given.{given_step as step, given_step_from as step_from, given_walk as walk}
 use Rattle.rg_stack.proofs.Mirrors.{Mirrors}
 use Rattle.rg_stack.specs.Shows.{levels_of}

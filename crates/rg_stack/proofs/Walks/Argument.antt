@@ -14,7 +14,8 @@ use Rattle.rg_code.specs.declared.op.Op.{Op}
 use Rattle.rg_code.specs.Code.{Code}
 use Rattle.rg_code.specs.Lowering.{Scope, slot_of, expr_code, exprs_code}
 use Rattle.rg_stack.specs.Machine.{slot_at}
-use Rattle.rg_stack.specs.Effects.{Work, Walked, Traps, with_value}
+use Rattle.rg_stack.specs.Effects.{Walked, Traps, with_value}
+use Rattle.rg_stack.specs.Tops.{Work}
 use Rattle.rg_stack.specs.Given.{given_walk as walk}
 use Rattle.rg_stack.proofs.Walks.Walk.{Agrees, walk-expr}
 use Rattle.rg_stack.specs.Machine.{Window}

@@ -19,7 +19,8 @@ use Rattle.rg_code.specs.Code.{Code}
 use Rattle.rg_code.specs.Lowering.{Scope, slot_of, expr_code, used_slots, clears, whole_code}
 use Rattle.rg_code.specs.Places.{is_mark, Stands, scope_of, Level, Lies}
 use Rattle.rg_stack.specs.Machine.{Frame, Window}
-use Rattle.rg_stack.specs.Effects.{Work, Walked, Stops, Returns, Traps, Stuck, with_value}
+use Rattle.rg_stack.specs.Effects.{Walked, Stops, Returns, Traps, Stuck, with_value}
+use Rattle.rg_stack.specs.Tops.{Work}
 use Rattle.rg_stack.specs.Runs.{come_to, landed, stopped}
 use Rattle.rg_stack.specs.Needs.{needs, owned_once}
 use Rattle.rg_stack.specs.Shows.{ShowsFrames, ShowsWindows, levels_of}

@@ -21,7 +21,8 @@ use Rattle.rg_code.specs.Lowering.{Scope, slot_of, type_in, field_number, type_b
 use Rattle.rg_stack.specs.Machine.{Window, slot_at}
 use Rattle.rg_stack.specs.Needs.{closed_of, is_closed}
 use Rattle.rg_stack.specs.Labels.{label_of}
-use Rattle.rg_stack.specs.Effects.{Work, Walked, Traps, Stuck, Go, with_value, element_in}
+use Rattle.rg_stack.specs.Effects.{Walked, Traps, Stuck, Go, with_value, element_in}
+use Rattle.rg_stack.specs.Tops.{Work}
 use Rattle.rg_stack.specs.Given.{given_act as act, given_walk as walk}
 use Rattle.rg_stack.proofs.Walks.Index.{element-of, element-given}
 use Rattle.std.proofs.lemmas.Bool.{not_from_false}

@@ -12,10 +12,11 @@ use Rattle.rg_base.specs.declared.value.Word.TheVariants.{Nil}
 use Rattle.rg_cells.specs.Table.{Heap}
 use Rattle.rg_frames.specs.declared.rows.Frame.{Frame as FrameRow}
 use Rattle.rg_frames.specs.Layers.{layers_from}
-use Rattle.rg_frames.specs.Stack.{Stack, IsTopFrame, with_slot, ended, pushed_of, popped}
+use Rattle.rg_frames.specs.Stack.{Stack}
+use Rattle.rg_frames.specs.Changes.{IsTopFrame, with_slot, ended, pushed_of, popped}
 use Rattle.rg_frames.proofs.Layered.{layers-push, layers-set}
 use Rattle.rg_stack.specs.Machine.{Frame, top_slots, with_slots, ended_slots, slots_below, place_of}
-use Rattle.rg_stack.specs.Effects.{frame_number}
+use Rattle.rg_stack.specs.Tops.{frame_number}
 use Rattle.rg_heap.specs.Answers.{val_of}
 use Rattle.rg_view.specs.View.{frame_of, frames_of}
 use Rattle.rg_view.specs.Lain.{Nested, Lain}

@@ -10,12 +10,15 @@ use Rattle.rg_regions.specs.Reach.{LiesIn}
 use Rattle.rg_regions.specs.Grove.{Grove}
 use Rattle.rg_frames.specs.Stack.{Stack}
 use Rattle.rg_stack.specs.Machine.{slot_at}
-use Rattle.rg_stack.specs.Needs.{owned_once, owns_or_nil, is_writable, may_stand}
+use Rattle.rg_stack.specs.Needs.{owned_once, owns_or_nil, may_stand}
+use Rattle.rg_stack.specs.Places.{is_writable}
 use Rattle.rg_heap.specs.Parts.{Parts}
-use Rattle.rg_heap.specs.Answers.{val_of, IsClosed, LeadsIntoClosed}
+use Rattle.rg_heap.specs.Answers.{val_of, IsClosed}
+use Rattle.rg_heap.specs.Reads.{LeadsIntoClosed}
 use Rattle.rg_heap.specs.Opened.{Opened}
 use Rattle.rg_heap.specs.Moves.{CanMove, NotBeneath}
-use Rattle.rg_heap.specs.Writes.{Stays, Ownerless, Comes, IsTemp, InActive, LeadsOut}
+use Rattle.rg_heap.specs.Writes.{Stays, Ownerless, Comes, InActive, LeadsOut}
+use Rattle.rg_heap.specs.Ends.{IsTemp}
 use Rattle.rg_view.specs.View.{machine_of}
 use Rattle.rg_view.specs.Numbers.{Numbers}
 use Rattle.rg_view.proofs.Callers.Open.{owner-leads}

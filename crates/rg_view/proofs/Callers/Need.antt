@@ -21,14 +21,17 @@ use Rattle.rg_regions.specs.Grove.{Grove, Above, direct, further}
 use Rattle.rg_frames.specs.declared.rows.Window.{Window as WindowRow}
 use Rattle.rg_frames.specs.Stack.{Stack, IsTop}
 use Rattle.rg_stack.specs.Machine.{Frame, top_slots, slot_at}
-use Rattle.rg_stack.specs.Effects.{top_region}
+use Rattle.rg_stack.specs.Tops.{top_region}
 use Rattle.rg_stack.specs.Needs.{slots_into, fields_into, places_into, owned_once, loose}
 use Rattle.rg_stack.specs.Labels.{is_open, is_into, label_of, is_outside}
-use Rattle.rg_stack.specs.Needs.{is_writable, may_stand}
+use Rattle.rg_stack.specs.Needs.{may_stand}
+use Rattle.rg_stack.specs.Places.{is_writable}
 use Rattle.rg_heap.specs.Parts.{Parts}
-use Rattle.rg_heap.specs.Answers.{val_of, IsClosed, LeadsIntoClosed}
+use Rattle.rg_heap.specs.Answers.{val_of, IsClosed}
+use Rattle.rg_heap.specs.Reads.{LeadsIntoClosed}
 use Rattle.rg_heap.specs.Opened.{Opened}
-use Rattle.rg_heap.specs.Writes.{Stays, Ownerless, Comes, IsTemp, InActive, LeadsOut}
+use Rattle.rg_heap.specs.Writes.{Stays, Ownerless, Comes, InActive, LeadsOut}
+use Rattle.rg_heap.specs.Ends.{IsTemp}
 use Rattle.rg_heap.specs.Moves.{NotBeneath}
 use Rattle.rg_held.proofs.Lists.{sum-one, count-one}
 use Rattle.rg_held.proofs.Places.{all-below}

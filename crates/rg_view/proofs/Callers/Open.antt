@@ -22,7 +22,8 @@ use Rattle.rg_stack.specs.Machine.{Window}
 use Rattle.rg_stack.specs.Needs.{closed_of, closed_into, is_closed, owns_or_nil}
 use Rattle.rg_stack.specs.Labels.{is_open, label_of, lies_in, is_into}
 use Rattle.rg_heap.specs.Parts.{Parts}
-use Rattle.rg_heap.specs.Answers.{val_of, obj_of, IsClosed, LeadsIntoClosed}
+use Rattle.rg_heap.specs.Answers.{val_of, obj_of, IsClosed}
+use Rattle.rg_heap.specs.Reads.{LeadsIntoClosed}
 use Rattle.rg_view.specs.View.{store_of, number_of, number_in, window_of, windows_of, machine_of}
 use Rattle.rg_view.proofs.Callers.Look.{store-held, val-held}
 

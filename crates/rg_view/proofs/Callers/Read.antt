@@ -14,7 +14,8 @@ use Rattle.rg_cells.specs.Table.{Heap, body_at, field_at, width, Serials}
 use Rattle.rg_frames.specs.Stack.{Stack}
 use Rattle.rg_heap.specs.Parts.{Parts}
 use Rattle.rg_heap.specs.Answers.{val_of}
-use Rattle.rg_stack.specs.Needs.{of_object, field_of}
+use Rattle.rg_stack.specs.Needs.{of_object}
+use Rattle.rg_stack.specs.Places.{field_of}
 use Rattle.rg_view.specs.View.{object_of, store_of, machine_of, values_of}
 use Rattle.rg_view.proofs.Callers.Look.{store-held, val-held}
 use Rattle.rg_view.proofs.Callers.Shown.{field-in}

@@ -5,8 +5,10 @@ use Rattle.std.proofs.lemmas.List.{reverse-append, length-reverse, length-take-l
 use Rattle.rg_base.specs.declared.object.Place.{Place}
 use Rattle.rg_regions.specs.Table.{RegionTable}
 use Rattle.rg_frames.specs.declared.rows.Window.{Window as WindowRow}
-use Rattle.rg_frames.specs.Stack.{Stack, IsTop, opened, closed}
-use Rattle.rg_stack.specs.Effects.{begins_by, top_region, top_window, without_top}
+use Rattle.rg_frames.specs.Stack.{Stack, IsTop}
+use Rattle.rg_frames.specs.Changes.{opened, closed}
+use Rattle.rg_stack.specs.Effects.{begins_by}
+use Rattle.rg_stack.specs.Tops.{top_region, top_window, without_top}
 use Rattle.rg_view.specs.View.{number_of, window_of, windows_of}
 use Rattle.rg_view.proofs.Callers.Frame.{last-reverse}
 

@@ -6,7 +6,8 @@ use Rattle.rg_base.specs.declared.value.Val.TheVariants as val
 use Rattle.rg_base.specs.declared.value.Word.TheVariants as word
 use Rattle.rg_cells.specs.Table.{Heap}
 use Rattle.rg_regions.specs.Table.{RegionTable}
-use Rattle.rg_frames.specs.Stack.{Stack, begun, pushed_of, opened}
+use Rattle.rg_frames.specs.Stack.{Stack}
+use Rattle.rg_frames.specs.Changes.{begun, pushed_of, opened}
 use Rattle.rg_heap.specs.Parts.{Parts}
 use Rattle.rg_base.specs.declared.object.Place.TheVariants as place
 use Rattle.rg_view.specs.View.{store_of, machine_of}

@@ -2,7 +2,8 @@ use Rattle.std.proofs.Common.{◌≡◌, ap, sym, ◌∙◌, subst, arith, ℕ, 
 use Rattle.rg_base.specs.declared.value.Word.{Word}
 use Rattle.rg_base.specs.declared.value.Word.TheVariants.{Nil}
 use Rattle.rg_frames.specs.declared.rows.Window.{Window}
-use Rattle.rg_frames.specs.Stack.{IsTop, with_shown}
+use Rattle.rg_frames.specs.Stack.{IsTop}
+use Rattle.rg_frames.specs.Changes.{with_shown}
 use Rattle.rg_copy.specs.Slid.{base_of, top_slots}
 use Rattle.rg_copy.specs.Inner.Moves.{moved_word, target, ForwardsSlots}
 use Rattle.rg_copy.proofs.Words.{from-none}

@@ -1,6 +1,7 @@
 use Rattle.std.proofs.Common.{◌≡◌, take, map}
 use Rattle.rg_cells.specs.Table.{body_at}
-use Rattle.rg_heap.specs.Answers.{val_of, fields_of}
+use Rattle.rg_heap.specs.Answers.{val_of}
+use Rattle.rg_heap.specs.Reads.{fields_of}
 use Rattle.rg_heap.proofs.reading.vals.Given as goal
 
 abbrev pub invariant-loop-k : goal.invariant-loop-k

@@ -19,7 +19,8 @@ use Rattle.rg_regions.specs.Table.{Record, record_at, HasNumber, InTable}
 use Rattle.rg_regions.specs.Reach.{LiesIn}
 use Rattle.rg_regions.specs.Grove.{Parent, Above, direct, further, Grove}
 use Rattle.rg_stack.specs.Machine.{Window}
-use Rattle.rg_stack.specs.Effects.{Work, with_store}
+use Rattle.rg_stack.specs.Effects.{with_store}
+use Rattle.rg_stack.specs.Tops.{Work}
 use Rattle.rg_stack.specs.Labels.{is_open, lies_in}
 use Rattle.rg_heap.specs.Parts.{Parts}
 use Rattle.rg_heap.specs.Ends.{Released, NoCell}

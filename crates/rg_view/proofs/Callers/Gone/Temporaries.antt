@@ -13,7 +13,7 @@ use Rattle.rg_cells.specs.Table.{body_at, label_at, Serials}
 use Rattle.rg_regions.specs.Grove.{Grove}
 use Rattle.rg_frames.specs.declared.rows.Window.{Window as WindowRow}
 use Rattle.rg_frames.specs.Stack.{Stack}
-use Rattle.rg_stack.specs.Effects.{top_window}
+use Rattle.rg_stack.specs.Tops.{top_window}
 use Rattle.rg_stack.specs.Needs.{is_top_temp, closed_into}
 use Rattle.rg_heap.specs.Parts.{Parts}
 use Rattle.rg_heap.specs.Answers.{val_of}

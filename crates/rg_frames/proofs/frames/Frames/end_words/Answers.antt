@@ -1,6 +1,7 @@
 use Rattle.std.proofs.Common.{◌≡◌, ◌≤◌, ◌+◌, length, take, subst, arith}
 use Rattle.std.proofs.lemmas.List.{length-take-le}
-use Rattle.rg_frames.specs.Stack.{Stack, ended}
+use Rattle.rg_frames.specs.Stack.{Stack}
+use Rattle.rg_frames.specs.Changes.{ended}
 use Rattle.rg_frames.proofs.Taken.{Cleared, made-nil, nil-on}
 use Rattle.rg_frames.proofs.Unwriting.{lies-slots, ended-long, unwritten-end, ended-past, is-ended}
 use Rattle.rg_frames.proofs.frames.Frames.end_words.Goals as goal

@@ -1,5 +1,6 @@
 use Rattle.std.proofs.Common.{length, subst}
-use Rattle.rg_frames.specs.Stack.{Stack, MarksLie, BasesRise}
+use Rattle.rg_frames.specs.Stack.{Stack}
+use Rattle.rg_frames.specs.Changes.{MarksLie, BasesRise}
 use Rattle.rg_frames.proofs.frames.Frames.lie.Goals as goal
 
 pub returns-clause-marks : goal.returns-clause-marks

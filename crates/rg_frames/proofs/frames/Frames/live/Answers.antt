@@ -1,5 +1,6 @@
 use Rattle.std.proofs.Common.{◌≡◌, subst, sym, arith}
-use Rattle.rg_frames.specs.Stack.{Stack, ended}
+use Rattle.rg_frames.specs.Stack.{Stack}
+use Rattle.rg_frames.specs.Changes.{ended}
 use Rattle.rg_frames.proofs.Unwriting.{ended-past}
 use Rattle.rg_frames.proofs.frames.Frames.live.Goals as goal
 

@@ -2,7 +2,8 @@ use Rattle.std.proofs.Common.{◌≡◌, ◌≤◌, ◌+◌, length, subst, sym,
 use Rattle.std.proofs.lemmas.List.{length-take-le}
 use Rattle.rg_frames.specs.declared.rows.Frame.{Frame}
 use Rattle.rg_frames.specs.declared.rows.Window.{Window}
-use Rattle.rg_frames.specs.Stack.{Stack, IsTop, IsTopFrame, popped}
+use Rattle.rg_frames.specs.Stack.{Stack, IsTop}
+use Rattle.rg_frames.specs.Changes.{IsTopFrame, popped}
 use Rattle.rg_frames.proofs.Taken.{Cleared, made-nil, nil-on, frames-more, lives-more, room-back, held-room, popped-on}
 use Rattle.rg_frames.proofs.Unwriting.{lies-cut, take-long, unwritten-popped, pop-top, rest-taken, is-popped}
 use Rattle.rg_frames.proofs.frames.Frames.pop_frame.Goals as goal

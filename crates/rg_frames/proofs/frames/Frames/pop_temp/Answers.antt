@@ -1,5 +1,6 @@
 use Rattle.std.proofs.Common.{◌≡◌, ◌<◌, ◌↔◌, IsNone, length, subst, sym, arith}
-use Rattle.rg_frames.specs.Stack.{Stack, Begun, mark}
+use Rattle.rg_frames.specs.Stack.{Stack, mark}
+use Rattle.rg_frames.specs.Changes.{Begun}
 use Rattle.rg_frames.specs.Inner.Layout.{stack_of}
 use Rattle.rg_frames.proofs.Unwriting.{mark-below, mark-left, none-clause, lies-temps}
 use Rattle.rg_frames.proofs.frames.Frames.pop_temp.Goals as goal

@@ -1,6 +1,7 @@
 use Rattle.std.proofs.Common.{◌≡◌, [], length, take, subst, sym, arith}
 use Rattle.std.proofs.lemmas.List.{length-take-le}
-use Rattle.rg_frames.specs.Stack.{Stack, HasRoom}
+use Rattle.rg_frames.specs.Stack.{Stack}
+use Rattle.rg_frames.specs.Changes.{HasRoom}
 use Rattle.rg_frames.proofs.Taken.{unwritten, frames-more, lives-more, room-less, pushed-on}
 use Rattle.rg_frames.proofs.Unwriting.{is-pushed, lies-longer, unwritten-pushed}
 use Rattle.rg_frames.proofs.frames.Frames.push_frame.Goals as goal

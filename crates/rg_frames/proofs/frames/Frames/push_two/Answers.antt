@@ -1,7 +1,8 @@
 use Rattle.std.proofs.Common.{◌≡◌, ◌+◌, ◌++◌, ◌∷◌, [], length, replicate, take, subst, sym, arith, length-append}
 use Rattle.std.proofs.lemmas.List.{length-take-le, length-replicate}
 use Rattle.rg_base.specs.declared.value.Word.TheVariants.{Nil}
-use Rattle.rg_frames.specs.Stack.{Stack, HasRoom}
+use Rattle.rg_frames.specs.Stack.{Stack}
+use Rattle.rg_frames.specs.Changes.{HasRoom}
 use Rattle.rg_frames.proofs.Taken.{Over, written, frames-more, lives-more, room-less, over-on}
 use Rattle.rg_frames.proofs.Unwriting.{is-pushed-of, lies-longer, unwritten-pushed}
 use Rattle.rg_frames.proofs.frames.Frames.push_two.Goals as goal

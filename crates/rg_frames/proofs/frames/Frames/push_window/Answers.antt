@@ -1,5 +1,6 @@
 use Rattle.std.proofs.Common.{◌≡◌, ◌≤◌, ◌-◌, List, Some, length, slice_get, subst, sym}
-use Rattle.rg_frames.specs.Stack.{BaseUpTo, Stack}
+use Rattle.rg_frames.specs.Stack.{Stack}
+use Rattle.rg_frames.specs.Changes.{BaseUpTo}
 use Rattle.rg_frames.specs.declared.rows.Window.{Window}
 use Rattle.rg_frames.proofs.frames.Frames.push_window.Goals as goal
 

@@ -5,7 +5,8 @@ use Rattle.rg_base.specs.declared.value.Word.{Word}
 use Rattle.rg_base.specs.declared.value.Word.TheVariants.{Nil}
 use Rattle.rg_frames.specs.declared.rows.Window.{Window}
 use Rattle.rg_frames.specs.Inner.Layout.{IsPast, Unwritten, frames_of, lives_of}
-use Rattle.rg_frames.specs.Stack.{Stack, IsTop, IsShown}
+use Rattle.rg_frames.specs.Stack.{Stack, IsTop}
+use Rattle.rg_frames.specs.Changes.{IsShown}
 use Rattle.rg_frames.proofs.Rising.{is-last}
 use Rattle.rg_frames.proofs.Taken.{Set, set-taken, shown-at}
 use Rattle.rg_frames.proofs.Unwriting.{lies-set}

@@ -1,7 +1,8 @@
 use Rattle.std.proofs.Common.{◌≡◌, ◌≤◌, ◌+◌, List, length, subst, sym, ap, arith}
 use Rattle.rg_base.specs.declared.value.Word.{Word}
 use Rattle.rg_frames.specs.Inner.Layout.{Unwritten, frames_of, lives_of}
-use Rattle.rg_frames.specs.Stack.{Stack, ended}
+use Rattle.rg_frames.specs.Stack.{Stack}
+use Rattle.rg_frames.specs.Changes.{ended}
 use Rattle.rg_frames.proofs.Unwriting.{unwritten-end}
 use Rattle.rg_frames.proofs.frames.Frames.settle.Goals as goal
 

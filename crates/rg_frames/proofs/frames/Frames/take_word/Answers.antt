@@ -1,7 +1,8 @@
 use Rattle.std.proofs.Common.{◌≡◌, ◌+◌, ◌<◌, length, take, subst, sym, arith}
 use Rattle.std.proofs.lemmas.List.{length-take-le}
 use Rattle.rg_base.specs.declared.value.Word.TheVariants.{Nil}
-use Rattle.rg_frames.specs.Stack.{Stack, InTop}
+use Rattle.rg_frames.specs.Stack.{Stack}
+use Rattle.rg_frames.specs.Changes.{InTop}
 use Rattle.rg_frames.proofs.Raised.{unwritten-nil}
 use Rattle.rg_frames.proofs.Taken.{Set, set-taken, shown-at}
 use Rattle.rg_frames.proofs.Unwriting.{is-set, lies-set}

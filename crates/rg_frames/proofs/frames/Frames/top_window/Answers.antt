@@ -1,5 +1,6 @@
 use Rattle.std.proofs.Common.{subst}
-use Rattle.rg_frames.specs.Stack.{Stack, MarksLie}
+use Rattle.rg_frames.specs.Stack.{Stack}
+use Rattle.rg_frames.specs.Changes.{MarksLie}
 use Rattle.rg_frames.proofs.frames.Frames.top_window.Goals as goal
 
 pub returns-clause-marks : goal.returns-clause-marks

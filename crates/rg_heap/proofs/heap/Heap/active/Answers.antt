@@ -1,7 +1,7 @@
 use Rattle.std.proofs.Common.{subst, length}
 use Rattle.rg_frames.specs.declared.rows.Window.{Window}
 use Rattle.rg_heap.specs.Parts.{Parts}
-use Rattle.rg_heap.specs.Answers.{Tells}
+use Rattle.rg_heap.specs.Reads.{Tells}
 use Rattle.rg_heap.proofs.Readers.{one_top, tells}
 use Rattle.rg_heap.proofs.heap.Heap.active.Goals as goal
 

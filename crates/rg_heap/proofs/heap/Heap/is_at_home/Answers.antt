@@ -1,6 +1,6 @@
 use Rattle.std.proofs.Common.{◌∙◌, Some, sym, ap, subst}
 use Rattle.rg_heap.specs.Parts.{Parts}
-use Rattle.rg_heap.specs.Answers.{LeadsIntoClosed}
+use Rattle.rg_heap.specs.Reads.{LeadsIntoClosed}
 use Rattle.rg_heap.proofs.Readers.{active_not_closed}
 use Rattle.rg_heap.proofs.heap.Heap.is_at_home.Goals as goal
 

@@ -3,7 +3,8 @@ use Rattle.rg_base.specs.declared.value.Word.TheVariants.{Slot}
 use Rattle.rg_regions.specs.Table.{RegionTable}
 use Rattle.rg_regions.specs.Collection.{AllHeld}
 use Rattle.rg_regions.specs.Grove.{Grove}
-use Rattle.rg_frames.specs.Stack.{Stack, IsTop, closed}
+use Rattle.rg_frames.specs.Stack.{Stack, IsTop}
+use Rattle.rg_frames.specs.Changes.{closed}
 use Rattle.rg_heap.specs.Parts.{Parts}
 use Rattle.rg_heap.specs.Ends.{CanLeave, top_temps}
 use Rattle.rg_heap.specs.Opened.{Opened}

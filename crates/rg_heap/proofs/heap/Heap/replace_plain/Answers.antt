@@ -5,7 +5,8 @@ use Rattle.rg_cells.specs.Table.{Table, body_at, width, with_field}
 use Rattle.rg_regions.specs.Grove.{Grove}
 use Rattle.rg_regions.proofs.Callers.Told.{field_within}
 use Rattle.rg_heap.specs.Parts.{Parts}
-use Rattle.rg_heap.specs.Writes.{Stays, InActive, IsTemp}
+use Rattle.rg_heap.specs.Writes.{Stays, InActive}
+use Rattle.rg_heap.specs.Ends.{IsTemp}
 use Rattle.rg_heap.proofs.Marked.{grove_replaced, may_write}
 use Rattle.rg_heap.proofs.heap.Heap.replace_plain.Goals as goal
 

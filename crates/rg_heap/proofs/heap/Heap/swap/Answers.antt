@@ -1,7 +1,8 @@
 use Rattle.std.proofs.Common.{◌⊎◌, ◌<◌, sym, subst}
 use Rattle.rg_cells.specs.Table.{body_at, width}
 use Rattle.rg_heap.specs.Parts.{Parts}
-use Rattle.rg_heap.specs.Writes.{Comes, InActive, IsTemp, LeadsOut}
+use Rattle.rg_heap.specs.Writes.{Comes, InActive, LeadsOut}
+use Rattle.rg_heap.specs.Ends.{IsTemp}
 use Rattle.rg_heap.proofs.Marked.{grove_swapped}
 use Rattle.rg_heap.proofs.heap.Heap.swap.Goals as goal
 

@@ -1,7 +1,8 @@
 use Rattle.std.proofs.Common.{◌⊎◌, ◌<◌, sym, subst}
 use Rattle.rg_cells.specs.Table.{body_at, width}
 use Rattle.rg_heap.specs.Parts.{Parts}
-use Rattle.rg_heap.specs.Writes.{Stays, InActive, IsTemp}
+use Rattle.rg_heap.specs.Writes.{Stays, InActive}
+use Rattle.rg_heap.specs.Ends.{IsTemp}
 use Rattle.rg_heap.proofs.Marked.{may_write}
 use Rattle.rg_heap.proofs.heap.Heap.write_element.Goals as goal
 

@@ -1,7 +1,8 @@
 use Rattle.std.proofs.Common.{◌≡◌, ◌≤◌, ℕ, Option, Some, None, IfSome, length, subst, arith}
 use Rattle.rg_cells.specs.Table.{Heap}
 use Rattle.rg_frames.specs.declared.rows.Frame.{Frame as FrameRow}
-use Rattle.rg_frames.specs.Stack.{Stack, IsTopFrame}
+use Rattle.rg_frames.specs.Stack.{Stack}
+use Rattle.rg_frames.specs.Changes.{IsTopFrame}
 use Rattle.rg_view.specs.View.{frames_of}
 use Rattle.rg_machine.specs.Keeps.{GoesBack}
 use Rattle.rg_machine.specs.Parts.{Parts, machine_in}

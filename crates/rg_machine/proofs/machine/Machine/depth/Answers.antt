@@ -1,5 +1,5 @@
 use Rattle.std.proofs.Common.{◌≡◌, ◌-◌, ◌∙◌, subst, ap}
-use Rattle.rg_stack.specs.Effects.{frame_number}
+use Rattle.rg_stack.specs.Tops.{frame_number}
 use Rattle.rg_view.proofs.Callers.Frame.{frame-number}
 use Rattle.rg_machine.specs.Parts.{Parts, machine_in}
 use Rattle.rg_machine.proofs.machine.Machine.depth.Goals as goal

@@ -1,5 +1,5 @@
 use Rattle.std.proofs.Common.{◌≡◌, ◌≤◌, ◌+◌, length, subst}
-use Rattle.rg_frames.specs.Stack.{ended}
+use Rattle.rg_frames.specs.Changes.{ended}
 use Rattle.rg_machine.specs.Effects.{ending}
 use Rattle.rg_machine.specs.Parts.{Parts}
 use Rattle.rg_machine.specs.Cores.{core_of}

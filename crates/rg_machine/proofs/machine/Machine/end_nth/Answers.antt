@@ -1,6 +1,6 @@
 use Rattle.std.proofs.Common.{◌≡◌, ◌<◌, ◌+◌, length, subst, sym}
 use Rattle.rg_base.specs.declared.value.Word.TheVariants.{Nil}
-use Rattle.rg_frames.specs.Stack.{with_slot}
+use Rattle.rg_frames.specs.Changes.{with_slot}
 use Rattle.rg_stack.specs.Machine.{top_slots}
 use Rattle.rg_machine.specs.Parts.{Parts, machine_in}
 use Rattle.rg_machine.specs.Cores.{core_of}

@@ -1,5 +1,5 @@
 use Rattle.std.proofs.Common.{◌≡◌, ◌≤◌, ◌+◌, ◌-◌, ◌∙◌, suc, length, ap, refl, subst, sym, arith}
-use Rattle.rg_frames.specs.Stack.{ended}
+use Rattle.rg_frames.specs.Changes.{ended}
 use Rattle.rg_machine.specs.Effects.{ending}
 use Rattle.rg_machine.specs.Inner.Ends.{MayEnd}
 use Rattle.rg_machine.specs.Parts.{Parts}

@@ -4,11 +4,12 @@ use Rattle.rg_base.specs.declared.object.Place.TheVariants as place
 use Rattle.rg_code.specs.Code.{empty}
 use Rattle.rg_code.specs.declared.op.Op.TheVariants as i
 use Rattle.rg_regions.specs.Reach.{LiesIn}
-use Rattle.rg_frames.specs.Stack.{Stack, opened, with_slot}
+use Rattle.rg_frames.specs.Stack.{Stack}
+use Rattle.rg_frames.specs.Changes.{opened, with_slot}
 use Rattle.rg_heap.specs.Parts.{Parts as HeapParts}
 use Rattle.rg_heap.specs.Ends.{CanEnter}
 use Rattle.rg_held.specs.Frees.{free_act}
-use Rattle.rg_stack.specs.Effects.{frame_number}
+use Rattle.rg_stack.specs.Tops.{frame_number}
 use Rattle.rg_stack.specs.Machine.{place_of}
 use Rattle.rg_base.specs.declared.outcome.Trap.TheVariants as trap
 use Rattle.rg_base.proofs.Callers.Labels.{slot-same}

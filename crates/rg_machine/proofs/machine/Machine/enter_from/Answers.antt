@@ -10,7 +10,8 @@ use Rattle.rg_code.specs.Code.{empty}
 use Rattle.rg_code.specs.declared.op.Op.TheVariants as i
 use Rattle.rg_cells.specs.Table.{field_at}
 use Rattle.rg_regions.specs.Reach.{LiesIn}
-use Rattle.rg_frames.specs.Stack.{Stack, opened, with_slot}
+use Rattle.rg_frames.specs.Stack.{Stack}
+use Rattle.rg_frames.specs.Changes.{opened, with_slot}
 use Rattle.rg_heap.specs.Parts.{Parts as HeapParts}
 use Rattle.rg_heap.specs.Ends.{CanEnter}
 use Rattle.rg_held.specs.Frees.{free_act}

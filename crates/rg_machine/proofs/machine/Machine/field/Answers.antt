@@ -1,5 +1,5 @@
 use Rattle.std.proofs.Common.{sym, subst}
-use Rattle.rg_heap.specs.Answers.{CanRead, Reads}
+use Rattle.rg_heap.specs.Reads.{CanRead, Reads}
 use Rattle.rg_machine.specs.Parts.{Parts}
 use Rattle.rg_machine.proofs.Callers.Word.{Known, word-reads, word-shown, word-leads}
 use Rattle.rg_machine.proofs.machine.Machine.field.Goals as goal

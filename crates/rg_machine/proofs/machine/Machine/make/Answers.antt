@@ -3,7 +3,7 @@ use Rattle.rg_base.specs.declared.object.Label.TheVariants.{Region}
 use Rattle.rg_base.specs.declared.value.Word.{Word}
 use Rattle.rg_base.specs.declared.value.Word.TheVariants.{Slot}
 use Rattle.rg_stack.specs.Machine.{value_of_word}
-use Rattle.rg_stack.specs.Effects.{top_region}
+use Rattle.rg_stack.specs.Tops.{top_region}
 use Rattle.rg_view.specs.View.{machine_of, managers_of, windows_of}
 use Rattle.rg_machine.specs.Core.{with_made}
 use Rattle.rg_machine.specs.Parts.{Parts, machine_in}

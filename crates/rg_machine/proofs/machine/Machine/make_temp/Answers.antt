@@ -2,9 +2,10 @@ use Rattle.std.proofs.Common.{◌≡◌, ◌∷◌, ◌++◌, [], List, map, ap,
 use Rattle.rg_base.specs.declared.object.Label.TheVariants.{Temp}
 use Rattle.rg_base.specs.declared.value.Word.{Word}
 use Rattle.rg_base.specs.declared.value.Word.TheVariants.{Slot}
-use Rattle.rg_frames.specs.Stack.{Stack, with_temp}
+use Rattle.rg_frames.specs.Stack.{Stack}
+use Rattle.rg_frames.specs.Changes.{with_temp}
 use Rattle.rg_stack.specs.Machine.{value_of_word}
-use Rattle.rg_stack.specs.Effects.{top_window}
+use Rattle.rg_stack.specs.Tops.{top_window}
 use Rattle.rg_view.specs.View.{machine_of, managers_of, windows_of}
 use Rattle.rg_machine.specs.Core.{with_made}
 use Rattle.rg_machine.specs.Parts.{Parts, machine_in}

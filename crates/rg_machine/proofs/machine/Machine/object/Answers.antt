@@ -1,5 +1,5 @@
 use Rattle.std.proofs.Common.{IfOk, subst}
-use Rattle.rg_heap.specs.Answers.{Shows}
+use Rattle.rg_heap.specs.Reads.{Shows}
 use Rattle.rg_machine.specs.Parts.{Parts}
 use Rattle.rg_machine.proofs.Find.{finds}
 use Rattle.rg_machine.proofs.machine.Machine.object.Goals as goal

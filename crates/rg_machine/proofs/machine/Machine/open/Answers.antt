@@ -5,9 +5,10 @@ use Rattle.rg_base.specs.declared.value.Word.TheVariants.{Slot}
 use Rattle.rg_code.specs.Code.{empty}
 use Rattle.rg_code.specs.declared.op.Op.TheVariants as i
 use Rattle.rg_regions.proofs.Callers.Told.{lies_held}
-use Rattle.rg_frames.specs.Stack.{Stack, opened}
+use Rattle.rg_frames.specs.Stack.{Stack}
+use Rattle.rg_frames.specs.Changes.{opened}
 use Rattle.rg_held.specs.Frees.{free_act}
-use Rattle.rg_stack.specs.Effects.{frame_number}
+use Rattle.rg_stack.specs.Tops.{frame_number}
 use Rattle.rg_stack.specs.Machine.{place_of}
 use Rattle.rg_machine.specs.Core.{work_of}
 use Rattle.rg_machine.specs.Frames.{can_open}

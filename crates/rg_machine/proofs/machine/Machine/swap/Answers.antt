@@ -1,4 +1,4 @@
-use Rattle.rg_frames.specs.Stack.{with_slot}
+use Rattle.rg_frames.specs.Changes.{with_slot}
 use Rattle.rg_machine.proofs.Swap.{Swapped, may-swap, swapped}
 use Rattle.rg_machine.proofs.Callers.High.{none-written}
 use Rattle.rg_machine.proofs.machine.Machine.swap.Goals as goal
