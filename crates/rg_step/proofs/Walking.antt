@@ -7,6 +7,7 @@ pub mod Leaves
 pub mod Ask
 pub mod Stops
 pub mod Landings
+pub mod OneAsk
 pub mod Run
 pub mod Steps
 pub mod Outcomes

@@ -28,7 +28,7 @@ use Rattle.rg_sound.proofs.Owners.Owner.{get-set, get-set-other}
 use Rattle.rg_sound.proofs.Stores.Element.{put_element-is}
 use Rattle.rg_code.specs.Code.{Code}
 use Rattle.rg_stack.specs.Machine.{Machine, Window}
-use Rattle.rg_stack.specs.Effects.{top_region, top_window, top_owner, without_top}
+use Rattle.rg_stack.specs.Tops.{top_region, top_window, top_owner, without_top}
 use Rattle.rg_stack.specs.Shows.{ShowsWindows, sizes_of}
 use Rattle.rg_held.specs.Gone.{gone}
 use Rattle.rg_held.specs.Shown.{ShowsHeld}

@@ -9,7 +9,7 @@ use Rattle.rg_code.specs.declared.op.Op.{Op}
 use Rattle.rg_code.specs.declared.op.Op.TheVariants as i
 use Rattle.rg_held.specs.Gone.{gone}
 use Rattle.rg_stack.specs.Machine.{Machine}
-use Rattle.rg_stack.specs.Effects.{top_region, top_window, top_owner, without_top}
+use Rattle.rg_stack.specs.Tops.{top_region, top_window, top_owner, without_top}
 
 -- a label is the active region, or the number of the topmost window
 abbrev pub Writable : Machine → Label → Type 0

@@ -1,13 +1,13 @@
 //! A walk along the code with what it asks of the input (docs/architecture.md, "The stepper").
 
-ghost use Rattle.std.specs.Prelude.{◌≡◌, ◌≤◌, Err, false};
+ghost use Rattle.std.specs.Prelude.{◌≡◌, ◌≢◌, ◌≤◌, Bool, Err, false};
 ghost use Rattle.rg_io.specs.Content.{Rose};
-ghost use Rattle.rg_input.specs.Numbers.{Follows, OnInput};
+ghost use Rattle.rg_input.specs.Numbers.{AsksFor, Follows, OnInput, Pending};
 ghost use Rattle.rg_stack.specs.Machine.{Machine as StackMachine};
 ghost use Rattle.rg_machine.specs.Parts.{machine_in};
 ghost use Rattle.rg_machine.specs.Cores.{core_of};
 ghost use Rattle.rg_compute.specs.Walks.{walk_from};
-ghost use Rattle.rg_step.specs.Inner.Refusals.{Stands};
+ghost use Rattle.rg_step.specs.Inner.Refusals.{Stands, at_fault};
 ghost use Rattle.rg_step.specs.Inner.Walks.{ComesTo, Lands, UnstuckOn};
 
 use crate::stopped::Stopped;
@@ -44,9 +44,14 @@ pub(crate) fn walk_asking<S: Source>(
     ensures lands { Lands code.now from p.old p.new result }
     ensures unasked { (start : StackMachine) → Stands code.now.ops start false from
         (machine_in p.old) → (input.new ≡ input.old) × (source.new ≡ source.old) }
+    ensures asks { (start : StackMachine) (asks : Bool) → Stands code.now.ops start asks from
+        (machine_in p.old) →
+        (n : Pending) × AsksFor S.replies (at_fault result) input.old n source.old source.new }
     ensures follows { Follows input.new (S.left source.new) }
     ensures fault { result ≡ Err Stopped.InputFault →
         Rose (S.faults source.old) (S.faults source.new) }
+    ensures no_fault { result ≢ Err Stopped.InputFault →
+        S.faults source.new ≡ S.faults source.old }
     ensures never_falls { S.faults source.old ≤ S.faults source.new }
 {
     let mut at = from;

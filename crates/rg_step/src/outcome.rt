@@ -1,9 +1,9 @@
 //! A step, without what may follow for its `collect` or its `pace` (docs/architecture.md, "The
 //! stepper").
 
-ghost use Rattle.std.specs.Prelude.{◌≡◌, ◌≤◌, ◌+◌, ◌<◌, ℕ, Some, slice_get, true};
+ghost use Rattle.std.specs.Prelude.{◌≡◌, ◌≢◌, ◌≤◌, ◌+◌, ◌<◌, ℕ, Some, slice_get, true};
 ghost use Rattle.rg_io.specs.Content.{Rose};
-ghost use Rattle.rg_input.specs.Numbers.{Follows, OnInput};
+ghost use Rattle.rg_input.specs.Numbers.{AsksFor, Follows, OnInput, Pending, is_input_fault};
 ghost use Rattle.rg_code.specs.declared.op.Op.TheVariants as i;
 ghost use Rattle.rg_code.specs.Dues.{due_at};
 ghost use Rattle.rg_code.specs.Shapes.{IsMark};
@@ -42,10 +42,13 @@ pub(crate) fn outcome<S: Source>(
     ensures room { is_made result ≡ true → HasPlace due events.new }
     ensures reads_nothing { UnlessAsking code.now (machine_in p.old)
         ((input.new ≡ input.old) × (source.new ≡ source.old)) }
+    ensures asks { (n : Pending) ×
+        AsksFor S.replies (is_input_fault result) input.old n source.old source.new }
     ensures input_fault { result ≡ Outcome.InputFault → AsksFirst code.now (machine_in p.old) }
     ensures follows { Follows input.new (S.left source.new) }
     ensures fault { result ≡ Outcome.InputFault →
         Rose (S.faults source.old) (S.faults source.new) }
+    ensures no_fault { result ≢ Outcome.InputFault → S.faults source.new ≡ S.faults source.old }
     ensures never_falls { S.faults source.old ≤ S.faults source.new }
 {
     let Ok(()) = make_place(due, events) else {

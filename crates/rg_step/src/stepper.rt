@@ -1,9 +1,10 @@
 //! The stepper (docs/architecture.md, "The stepper").
 
-ghost use Rattle.std.specs.Prelude.{◌≡◌, ◌≤◌, ℕ, List, None, IfOk, IfSome, OnErr, OnOk};
+ghost use Rattle.std.specs.Prelude.{◌≡◌, ◌≢◌, ◌≤◌, ℕ, List, None, IfOk, IfSome, OnErr, OnOk};
 ghost use Rattle.std.specs.Prelude.{length, true};
 ghost use Rattle.rg_io.specs.Content.{Rose};
-ghost use Rattle.rg_input.specs.Numbers.{Follows, OnInput};
+ghost use Rattle.rg_input.specs.Numbers.{AsksFor, Follows, OnInput, Pending};
+ghost use Rattle.rg_input.specs.Numbers.{is_input_fault};
 ghost use Rattle.rg_tree.specs.Tree.{Tree};
 ghost use Rattle.rg_rules.specs.State.{State};
 ghost use Rattle.rg_sound.specs.Fit.{Fit};
@@ -250,11 +251,15 @@ impl Stepper {
             (both (tally count.new) (tally trace.new)) }
         ensures reads_nothing { UnlessAsking code.now (machine_in self.old.parts)
             ((input.new ≡ input.old) × (source.new ≡ source.old)) }
+        ensures asks { (n : Pending) ×
+            AsksFor S.replies (is_input_fault result) input.old n source.old source.new }
         ensures input_fault { result ≡ Outcome.InputFault →
             AsksFirst code.now (machine_in self.old.parts) }
         ensures follows { Follows input.new (S.left source.new) }
         ensures fault { result ≡ Outcome.InputFault →
             Rose (S.faults source.old) (S.faults source.new) }
+        ensures no_fault { result ≢ Outcome.InputFault →
+            S.faults source.new ≡ S.faults source.old }
         ensures never_falls { S.faults source.old ≤ S.faults source.new }
     {
         let Some(p) = &mut self.machine else {

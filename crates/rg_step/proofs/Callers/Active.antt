@@ -16,7 +16,7 @@ use Rattle.rg_heap.specs.declared.answers.Collected.{Collected}
 use Rattle.rg_heap.specs.Collects.{CollectsBy}
 use Rattle.rg_heap.specs.Parts.{Parts as HeapParts}
 use Rattle.rg_heap.specs.Slides.{SlidesBy}
-use Rattle.rg_stack.specs.Effects.{top_region}
+use Rattle.rg_stack.specs.Tops.{top_region}
 use Rattle.rg_stack.specs.Machine.{Window}
 use Rattle.rg_stack.specs.Shows.{ShowsWindows}
 use Rattle.rg_view.specs.View.{number_in}

@@ -1,5 +1,5 @@
 -- What a refusal leaves of the machine and of the input, and where frames go back (docs/architecture.md, "The stepper").
-use Rattle.std.specs.Prelude.{◌≡◌, ◌⊎◌, ℕ, ◌+◌, List, drop, Bool as Truth, true, false}
+use Rattle.std.specs.Prelude.{◌≡◌, ◌⊎◌, ℕ, ◌+◌, List, drop, Bool as Truth, true, false, Result, Ok, Err}
 use Rattle.rg_base.specs.declared.outcome.Trap.{Trap}
 use Rattle.rg_base.specs.declared.outcome.Trap.TheVariants as trap
 use Rattle.rg_code.specs.declared.op.Op.{Op}
@@ -37,6 +37,16 @@ abbrev pub stopped_by : NumberRefusal → Stopped
 stopped_by no.End = stopped.Trap trap.End
 stopped_by no.Input = stopped.Trap trap.Input
 stopped_by no.InputFault = stopped.InputFault
+
+-- whether a step stops at a fault of the input
+abbrev pub is_input : Stopped → Truth
+is_input (stopped.Trap k) = false
+is_input stopped.InputFault = true
+is_input stopped.Memory = false
+
+abbrev pub at_fault : {A : Type 0} → Result A Stopped → Truth
+at_fault (Ok x) = false
+at_fault (Err why) = is_input why
 
 -- what a stop says of what the definition gives, which traps as it does
 abbrev pub StopIs : {A : Type 0} → (traps : Trap → A) → (given : A) → Stopped → Type 0

@@ -1,10 +1,11 @@
-use Rattle.std.proofs.Common.{◌≡◌, ◌∙◌, ◌+◌, Ok, Err, subst, ap, to_z, of_z, w64, arith}
+use Rattle.std.proofs.Common.{◌≡◌, ◌∙◌, ◌+◌, ℤ, Ok, Err, refl, sym, subst, ap, to_z, of_z, w64, arith, inl, inr}
 use Rattle.std.proofs.lemmas.Int.{to_z-of_z}
 use Rattle.std.proofs.lemmas.Result.{err_from_is_err_and}
 use Rattle.rg_base.specs.declared.value.Val.TheVariants.{Bool, Int}
 use Rattle.rg_io.proofs.Content.{Rose-since}
-use Rattle.rg_input.specs.Numbers.{Answers, Looks}
-use Rattle.rg_input.proofs.Input.{OnInput-map, OnInput-both}
+use Rattle.rg_input.specs.Numbers.{Answers, AsksFor, Looks, is_fault, nothing_came}
+use Rattle.rg_input.specs.declared.refusal.NumberRefusal.TheVariants as no
+use Rattle.rg_input.proofs.Input.{OnInput-map, OnInput-both, OnInput-still}
 use Rattle.rg_machine.specs.Core.{below_top, with_top}
 use Rattle.rg_compute.specs.Walks.{walk_from}
 use Rattle.rg_compute.proofs.Turn.{past-code}
@@ -15,6 +16,7 @@ use Rattle.rg_step.specs.Inner.Walks.{ComesTo, WalkEnds}
 use Rattle.rg_step.proofs.Walking.Ask.{unstuck-there}
 use Rattle.rg_step.proofs.Walking.Landings.{along-more, along-read, comes-back, comes-nowhere, comes-stop, comes-unread, comes-unseen}
 use Rattle.rg_step.proofs.Walking.Landings.{lands-back, lands-nowhere, lands-stop, lands-unread, lands-unseen, never-looks, never-reads, reads-on, sees-on}
+use Rattle.rg_step.proofs.Walking.OneAsk.{asked-more, asked-read, asked-so, asks-more, asks-read, other-stop, stopped-fault}
 use Rattle.rg_step.proofs.Walking.Stops.{none-fault}
 use Rattle.rg_step.proofs.Walking.Walks.{SoFar}
 use Rattle.rg_machine.specs.Cores.{core_of}
@@ -35,6 +37,20 @@ unreachable-requires g c =
     c.requires.given i.follows i.so_far (λ before after h. h.0) in
     some.1 (past-code c.args.code.now c.loop-at.at (core_of c.loop-at.p) some.0 (omega (arith, c.loop-at-test.false, c.len.ensures)))
 
+-- it begins
+
+pub loop-at-init : goal.loop-at-init
+loop-at-init g c = record {
+  so_far = OnInput-still _ _ _ _ (SoFar c.args.code.now c.args.from c.args.p.now c.args.from c.args.p.now) refl refl
+      (λ bytes. (refl, λ start asks s. inr refl));
+  along = record { stands = λ start asks s. s; backs = refl; high = λ start h. h };
+  unasked = λ start s. (refl, refl);
+  asked = λ start asks s. inl nothing_came;
+  follows = c.requires.follows;
+  no_fault = refl;
+  never_falls = omega arith;
+}
+
 -- a number was read
 
 pub loop-at-preserved-in-Read : goal.loop-at-preserved-in-Read
@@ -54,7 +70,10 @@ loop-at-preserved-in-Read g c =
           (reads-on code c.args.from c.args.p.now c.loop-at.at c.loop-at.p new i.along at put z w is);
       along = along-read code c.args.from c.args.p.now c.loop-at.at c.loop-at.p new i.along at put (Int z) is c.set_top.ensures.same.heap w;
       unasked = λ start s. absurd (never-reads code c.args.from c.args.p.now c.loop-at.at c.loop-at.p new i.along at w start s);
+      asked = λ start asks s. asked-read code c.loop-at.at c.loop-at.p new c.args.input.now c.loop-at.input _ c.args.source.now c.loop-at.source _ start
+          asks (i.along.stands start asks s) (i.asked start asks s) at w c.in_ok-z-in-Read.ensures.asks;
       follows = c.in_ok-z-in-Read.ensures.follows;
+      no_fault = c.in_ok-z-in-Read.ensures.quiet (λ e. cc) ∙ i.no_fault;
       never_falls = omega (arith, i.never_falls, c.in_ok-z-in-Read.ensures.never_falls);
     }
 
@@ -74,7 +93,10 @@ loop-at-preserved g c =
           (sees-on code c.args.from c.args.p.now c.loop-at.at c.loop-at.p new i.along at put b w is);
       along = along-more code c.args.from c.args.p.now c.loop-at.at c.loop-at.p new i.along at put (Bool b) is c.set_top-in-More.ensures.same.heap w;
       unasked = λ start s. absurd (never-looks code c.args.from c.args.p.now c.loop-at.at c.loop-at.p new i.along at w start s);
+      asked = λ start asks s. asked-more code c.loop-at.at c.loop-at.p new c.args.input.now c.loop-at.input _ c.args.source.now c.loop-at.source _ start
+          asks (i.along.stands start asks s) (i.asked start asks s) at w c.in_ok-b-in-More.ensures.asks;
       follows = c.in_ok-b-in-More.ensures.follows;
+      no_fault = c.in_ok-b-in-More.ensures.quiet ∙ i.no_fault;
       never_falls = omega (arith, i.never_falls, c.in_ok-b-in-More.ensures.never_falls);
     }
 
@@ -94,8 +116,12 @@ returns-in_err-pause g c =
           (comes-nowhere code c.args.from c.args.p.now c.loop-at.at c.loop-at.p new why w);
       lands = lands-nowhere code c.args.from c.args.p.now c.loop-at.at c.loop-at.p new i.along why w;
       unasked = i.unasked;
+      asks = λ start asks s.
+          let asked = asked-so code.ops c.loop-at.at c.args.input.now c.loop-at.input c.args.source.now c.loop-at.source (i.asked start asks s) in
+          (asked.0, subst (λ f. AsksFor g.S.Source.replies f c.args.input.now asked.0 c.args.source.now c.loop-at.source) (sym (other-stop why w.walk.0)) asked.1);
       follows = i.follows;
       fault = λ e. absurd (w.walk.0 cc);
+      no_fault = λ other. i.no_fault;
       never_falls = i.never_falls;
     })
 
@@ -116,8 +142,14 @@ returns-in_err-z-in-Read g c =
           (comes-unread code c.args.from c.args.p.now c.loop-at.at c.loop-at.p new at why w);
       lands = lands-unread code c.args.from c.args.p.now c.loop-at.at c.loop-at.p new i.along at why w;
       unasked = λ start s. absurd (never-reads code c.args.from c.args.p.now c.loop-at.at c.loop-at.p new i.along at w start s);
+      asks = λ start asks s.
+          let asked = asks-read code c.loop-at.at c.loop-at.p new c.args.input.now c.loop-at.input c.loop-at.input c.args.source.now c.loop-at.source _
+          start asks (i.along.stands start asks s) (i.asked start asks s) (is_fault {A = ℤ} (Err why)) at w c.in_err-z-in-Read.ensures.asks in
+          (asked.0, subst (λ f. AsksFor g.S.Source.replies f c.args.input.now asked.0 c.args.source.now c.next.new.source) (stopped-fault why) asked.1);
       follows = c.in_err-z-in-Read.ensures.follows;
       fault = λ e. Rose-since _ _ _ i.never_falls (c.in_err-z-in-Read.ensures.fault (ap Err (none-fault why cc)));
+      no_fault = λ other.
+          c.in_err-z-in-Read.ensures.quiet (λ e. let same : why ≡ no.InputFault = cc (e) in other (ap (λ w. Err (stopped_by w)) same)) ∙ i.no_fault;
       never_falls = omega (arith, i.never_falls, c.in_err-z-in-Read.ensures.never_falls);
     })
 
@@ -135,8 +167,11 @@ returns-in_err-b-in-More g c =
           (comes-unseen code c.args.from c.args.p.now c.loop-at.at c.loop-at.p new at w);
       lands = lands-unseen code c.args.from c.args.p.now c.loop-at.at c.loop-at.p new i.along at w;
       unasked = λ start s. absurd (never-looks code c.args.from c.args.p.now c.loop-at.at c.loop-at.p new i.along at w start s);
+      asks = λ start asks s. asks-more code c.loop-at.at c.loop-at.p new c.args.input.now c.loop-at.input _ c.args.source.now c.loop-at.source _ start
+          asks (i.along.stands start asks s) (i.asked start asks s) at w c.in_err-b-in-More.ensures.asks;
       follows = c.in_err-b-in-More.ensures.follows;
       fault = λ e. Rose-since _ _ _ i.never_falls c.in_err-b-in-More.ensures.fault;
+      no_fault = λ other. absurd (other refl);
       never_falls = omega (arith, i.never_falls, c.in_err-b-in-More.ensures.never_falls);
     })
 
@@ -155,8 +190,11 @@ returns-in-Stop g c =
           (comes-stop code c.args.from c.args.p.now c.loop-at.at c.loop-at.p new t w);
       lands = lands-stop code c.args.from c.args.p.now c.loop-at.at c.loop-at.p new i.along t w;
       unasked = i.unasked;
+      asks = λ start asks s.
+          asked-so code.ops c.loop-at.at c.args.input.now c.loop-at.input c.args.source.now c.loop-at.source (i.asked start asks s);
       follows = i.follows;
       fault = λ e. absurd cc;
+      no_fault = λ other. i.no_fault;
       never_falls = i.never_falls;
     }
 
@@ -173,7 +211,10 @@ returns-in-Return g c =
           (comes-back code c.args.from c.args.p.now c.loop-at.at c.loop-at.p new t w);
       lands = lands-back code c.args.from c.args.p.now c.loop-at.at c.loop-at.p new i.along t w;
       unasked = i.unasked;
+      asks = λ start asks s.
+          asked-so code.ops c.loop-at.at c.args.input.now c.loop-at.input c.args.source.now c.loop-at.source (i.asked start asks s);
       follows = i.follows;
       fault = λ e. absurd cc;
+      no_fault = λ other. i.no_fault;
       never_falls = i.never_falls;
     }

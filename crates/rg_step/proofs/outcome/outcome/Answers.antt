@@ -3,7 +3,7 @@ use Rattle.std.proofs.lemmas.Option.{slice_get_within}
 use Rattle.rg_base.specs.declared.event.Cause.TheVariants.{Asked}
 use Rattle.rg_base.specs.declared.outcome.Outcome.TheVariants as outcome
 use Rattle.rg_input.proofs.Input.{OnInput-map, OnInput-some, OnInput-still}
-use Rattle.rg_input.specs.Numbers.{OnInput}
+use Rattle.rg_input.specs.Numbers.{AsksFor, OnInput, is_input_fault, nothing_came}
 use Rattle.rg_code.specs.Dues.{due_at}
 use Rattle.rg_code.specs.Shapes.{IsMark}
 use Rattle.rg_machine.specs.Parts.{Parts, machine_in}
@@ -18,6 +18,7 @@ use Rattle.rg_step.specs.Inner.Walks.{StepIs}
 use Rattle.rg_step.specs.Steps.{IsResting, StepsOn, is_made}
 use Rattle.rg_step.specs.Frees.{StaysGone}
 use Rattle.rg_step.proofs.Frees.{did-frees, did-stays, table-frees}
+use Rattle.rg_step.proofs.Walking.OneAsk.{answer-input}
 use Rattle.rg_step.proofs.Walking.Outcomes.{answer-fault, answer-leaves, answer-settles, instructed-nothing}
 use Rattle.rg_step.proofs.Shapes.Pass.{asked-step, is-asked, pass-frees, pass-high, pass-rests, pass-stays, pass-steps}
 use Rattle.rg_step.proofs.Walking.Run.{runs-ask, runs-given, runs-orderly, unasked-there}
@@ -127,6 +128,13 @@ returns-clause-fault g c e =
     let told = c.answer.ensures mark.0 (ap (slice_get code.ops) c.at-at.ensures ∙ mark.1) in
     c.step-did.ensures.fault (answer-fault c.step-did.result mark.0 c.printed-printed.result (sym told ∙ e))
 
+pub returns-clause-no_fault : goal.returns-clause-no_fault
+returns-clause-no_fault g c other =
+    let code = c.args.code.now in
+    let mark = mark-there code (core_of c.args.p.now) (runs-given code (core_of c.args.p.now) c.requires.runs) in
+    let told = c.answer.ensures mark.0 (ap (slice_get code.ops) c.at-at.ensures ∙ mark.1) in
+    c.step-did.ensures.no_fault (λ e. other (told ∙ ap (λ d. answer d mark.0 c.printed-printed.result) e))
+
 pub returns-clause-did : goal.returns-clause-did
 returns-clause-did g c =
     let code = c.args.code.now in
@@ -167,3 +175,22 @@ returns-clause-did g c =
       still = λ asked. absurd (true≢false (sym asked ∙ sym c.is_asked.ensures ∙ c.if-is_asked.false));
       rests = subst IsResting (sym c.start.ensures) (record { words = refl; printed = refl });
     }
+
+-- what it asks for
+
+pub returns-in_default-clause-asks : goal.returns-in_default-clause-asks
+returns-in_default-clause-asks g c = (c.args.input.now, nothing_came)
+
+pub returns-then-is_asked-clause-asks : goal.returns-then-is_asked-clause-asks
+returns-then-is_asked-clause-asks g c = (c.args.input.now, nothing_came)
+
+pub returns-clause-asks : goal.returns-clause-asks
+returns-clause-asks g c =
+    let code = c.args.code.now in
+    let m = machine_in c.args.p.now in
+    let runs = c.requires.runs in
+    let mark = mark-there code (core_of c.args.p.now) (runs-given code (core_of c.args.p.now) runs) in
+    let told = c.answer.ensures mark.0 (ap (slice_get code.ops) c.at-at.ensures ∙ mark.1) in
+    let asks = c.step-did.ensures.asks (runs-orderly runs.0 code m runs.1 runs.2) in
+    let is = answer-input c.step-did.result mark.0 c.printed-printed.result ∙ sym (ap is_input_fault told) in
+    (asks.0, subst (λ f. AsksFor g.S.Source.replies f c.args.input.now asks.0 c.args.source.now c.step-did.new.source) is asks.1)

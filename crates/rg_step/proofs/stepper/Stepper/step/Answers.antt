@@ -1,6 +1,6 @@
 -- Each end of a step, by the lemma that makes its record.
 use Rattle.std.proofs.Common.{◌≡◌, ◌∙◌, true, false, subst, sym, refl, ap}
-use Rattle.rg_input.proofs.Input.{OnInput-map, OnInput-still}
+use Rattle.rg_input.proofs.Input.{OnInput-map, OnInput-still, asks-nothing}
 use Rattle.rg_code.specs.Dues.{due_at}
 use Rattle.rg_machine.specs.Parts.{machine_in}
 use Rattle.rg_step.specs.Inner.Serving.{is_asked}
@@ -132,3 +132,15 @@ pub returns-clause-input_fault : goal.returns-clause-input_fault
 returns-clause-input_fault g c =
     rw (← shows-some c.self.inside.machine c.in-Some.p c.self.inside.kept c.args.self.now c.in-Some.is c.self.view_is)
     c.outcome-outcome.ensures.input_fault
+
+-- what it asks for
+
+pub returns-in-New-clause-asks : goal.returns-in-New-clause-asks
+returns-in-New-clause-asks g c =
+    (c.args.input.now, asks-nothing g.S.Source.replies c.args.input.now c.args.source.now c.make_paced.result c.make_paced.ensures.no_fault)
+
+pub returns-then-not-is_made-clause-asks : goal.returns-then-not-is_made-clause-asks
+returns-then-not-is_made-clause-asks g c = c.outcome-outcome.ensures.asks
+
+pub returns-clause-asks : goal.returns-clause-asks
+returns-clause-asks g c = c.outcome-outcome.ensures.asks
