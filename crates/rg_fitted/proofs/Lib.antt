@@ -5,4 +5,6 @@ mod Maps
 mod Marks
 mod Fit
 mod Ends
+mod Entries
 mod Bodies
+mod Places

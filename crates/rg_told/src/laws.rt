@@ -1,6 +1,7 @@
 //! The laws of the program that a module tells, as contracts of functions that do nothing
 //! (docs/architecture.md, "Modules").
 
+ghost use Rattle.rg_told.specs.Bare.{ToldAreBare};
 ghost use Rattle.rg_told.specs.Laws.{ToldAreBounded, ToldAreNumbered};
 
 /// It has numbers for names.
@@ -14,3 +15,8 @@ pub fn told_are_bounded()
 {
     rg_bodies::bodies_are_told();
 }
+
+/// Its text has its own brackets alone, if no number is one that no source can write.
+pub fn told_are_bare()
+    ensures { ToldAreBare }
+{}

@@ -1,6 +1,7 @@
 -- Lemmas on the programs that raise a module.
 mod Alike
 mod Back
+mod Bare
 mod BodyCode
 mod Endings
 mod Fits

@@ -2,4 +2,5 @@
 pub mod Bodies
 pub mod Inner
 pub mod Told
+pub mod Bare
 pub mod Verdict

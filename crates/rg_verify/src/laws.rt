@@ -2,6 +2,7 @@
 //! (docs/architecture.md, "Modules").
 
 ghost use Rattle.rg_raised.specs.Told.{program_told};
+ghost use Rattle.rg_verify.specs.Bare.{RaisedAreBare};
 ghost use Rattle.rg_verify.specs.Told.{RaisedAlike, TellsRaised, ToldRaisesIfAny};
 
 /// Each program that raises a module is told by it, but for lines that no mark has.
@@ -31,4 +32,13 @@ pub fn told_raises_if_any()
     rg_limits::limits_are_lineless();
     rg_lines::same_acceptance();
     rg_same::same_module();
+}
+
+/// Programs that raise a module have no brackets but those of their form.
+pub fn raised_are_bare()
+    ensures { RaisedAreBare }
+{
+    told_raises_if_any();
+    raised_alike();
+    rg_told::told_are_bare();
 }
