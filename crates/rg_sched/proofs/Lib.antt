@@ -1,2 +1,3 @@
 -- Lemmas on schedules that are run.
+mod Asking
 mod Numbered

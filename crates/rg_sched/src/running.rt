@@ -1,6 +1,6 @@
 //! A schedule that is run (docs/architecture.md, "Worlds").
 
-ghost use Rattle.std.specs.Prelude.{◌≡◌, ◌≤◌, ◌<◌, length, Err, IfOk, IfSome, OnErr};
+ghost use Rattle.std.specs.Prelude.{◌≡◌, ◌≢◌, ◌≤◌, ◌<◌, length, Err, IfOk, IfSome, OnErr, OnOk};
 ghost use Rattle.rg_io.specs.Content.{Rose};
 ghost use Rattle.rg_input.specs.Numbers.{Follows, OnInput};
 ghost use Rattle.rg_tree.specs.Rows.RowTrees.{program_of};
@@ -8,7 +8,7 @@ ghost use Rattle.rg_code.specs.Lowering.{Lowers};
 ghost use Rattle.rg_contents.specs.Read.{IsReadFor};
 ghost use Rattle.rg_world.specs.Worlds.{SameTuned, both};
 ghost use Rattle.rg_sched.specs.Schedules.{behaviour_of, schedule_of};
-ghost use Rattle.rg_sched.specs.Running.{CountIs, RunIs};
+ghost use Rattle.rg_sched.specs.Running.{Comes, CountComes};
 ghost use Rattle.rg_sched.specs.Inner.Runs.{Names};
 
 use crate::limits::SCHEDULE;
@@ -50,11 +50,14 @@ pub fn run_counted<S: Source>(
     requires read { IsReadFor (program_of accepted.now.program) plan.now images.items }
     requires follows { Follows schedule.old (S.left source.old) }
     ensures run { OnInput schedule.old schedule.new (S.left source.old) (S.left source.new)
-        (λ before after. CountIs (program_of accepted.now.program) code.now plan.now images.items
-        (schedule_of (length plan.now.behaviours) before) result) }
+        (λ before after. CountComes (program_of accepted.now.program) code.now plan.now
+        images.items (schedule_of (length plan.now.behaviours) before) result
+        (both (tally count.old) (tally trace.old)) (both (tally count.new) (tally trace.new))) }
     ensures follows { Follows schedule.new (S.left source.new) }
     ensures fault { result ≡ Err SchedStop.InputFault →
         Rose (S.faults source.old) (S.faults source.new) }
+    ensures quiet { result ≢ Err SchedStop.InputFault →
+        S.faults source.new ≡ S.faults source.old }
     ensures never_falls { S.faults source.old ≤ S.faults source.new }
     ensures tuned { SameTuned (both (tally count.old) (tally trace.old))
         (both (tally count.new) (tally trace.new)) }
@@ -90,11 +93,14 @@ pub fn run<S: Source>(
     requires read { IsReadFor (program_of accepted.now.program) plan.now images.items }
     requires follows { Follows schedule.old (S.left source.old) }
     ensures run { OnInput schedule.old schedule.new (S.left source.old) (S.left source.new)
-        (λ before after. RunIs (program_of accepted.now.program) code.now plan.now images.items
-        (schedule_of (length plan.now.behaviours) before) result) }
+        (λ before after. Comes (program_of accepted.now.program) code.now plan.now
+        images.items (schedule_of (length plan.now.behaviours) before) result
+        (both (tally count.old) (tally trace.old)) (both (tally count.new) (tally trace.new))) }
     ensures follows { Follows schedule.new (S.left source.new) }
     ensures fault { result ≡ Err SchedStop.InputFault →
         Rose (S.faults source.old) (S.faults source.new) }
+    ensures quiet { result ≢ Err SchedStop.InputFault →
+        S.faults source.new ≡ S.faults source.old }
     ensures never_falls { S.faults source.old ≤ S.faults source.new }
     ensures tuned { SameTuned (both (tally count.old) (tally trace.old))
         (both (tally count.new) (tally trace.new)) }
@@ -121,6 +127,7 @@ fn next_behaviour<S: Source>(
     ensures below { IfOk result (λ o. IfSome o (λ i. i < length plan.now.behaviours)) }
     ensures follows { Follows schedule.new (S.left source.new) }
     ensures fault { OnErr result (Rose (S.faults source.old) (S.faults source.new)) }
+    ensures quiet { OnOk result (S.faults source.new ≡ S.faults source.old) }
     ensures never_falls { S.faults source.old ≤ S.faults source.new }
 {
     match schedule.next(source) {

@@ -3,17 +3,22 @@ use Rattle.std.specs.Fmt.{digits}
 use Rattle.std.proofs.Common.{◌≡◌, refl, ℕ, List, [], ◌∷◌, ◌++◌, length, replicate, Option, Some, None, Ok, Err, codes}
 use Prim.Native.String.{String}
 use Rattle.rg_base.specs.declared.fault.Code.TheVariants.{Plan, Schedule}
+use Rattle.rg_base.specs.declared.words.Manager.{Manager}
+use Rattle.rg_base.specs.declared.words.Manager.TheVariants.{Count, Trace}
+use Rattle.rg_rules.specs.Outside.Asks.{asks_from}
 use Rattle.rg_rules.specs.Runs.{plain_from}
 use Rattle.rg_cown.specs.Cargo.{CargoList}
 use Rattle.rg_cown.specs.Contents.{read_on}
 use Rattle.rg_plan.specs.Plans.{Read, PlanOf}
 use Rattle.rg_plan.specs.Rules.{plan_of}
 use Rattle.rg_sched_atomic.specs.Contents.{Empty}
-use Rattle.rg_sched.specs.Schedules.{Whole, BadAt, TooLong, schedule_of, schedule_from}
+use Rattle.rg_sched_atomic.specs.Settings.{setting_of}
+use Rattle.rg_sched.specs.Asking.{schedule_asks}
+use Rattle.rg_sched.specs.Schedules.{Whole, BadBehind, TooLong, schedule_of, schedule_from}
 use Rattle.rg_words.specs.declared.status.Status.TheVariants as status
 use Rattle.rg_words.specs.Answers.{Answer, refused}
 use Rattle.rg_when.specs.Scheduled.{kept_of, schedule_answer}
-use Rattle.rg_when.proofs.Counter.{counted, lines, two}
+use Rattle.rg_when.proofs.Counter.{counted, making, lines, two}
 
 -- What inputs say as schedules
 
@@ -21,15 +26,15 @@ numbers : schedule_of 2 (codes " 0 1 0") ≡ Whole (0 ∷ 1 ∷ 0 ∷ [])
 unfolding schedule_from
 numbers = refl
 
-no_behaviour : schedule_of 2 (codes "0 2 x") ≡ BadAt 2
+no_behaviour : schedule_of 2 (codes "0 2 x") ≡ BadBehind (0 ∷ [])
 unfolding schedule_from
 no_behaviour = refl
 
-no_number : schedule_of 2 (codes "x") ≡ BadAt 1
+no_number : schedule_of 2 (codes "x") ≡ BadBehind []
 unfolding schedule_from
 no_number = refl
 
-below_nothing : schedule_of 2 (codes "0 0 -1") ≡ BadAt 3
+below_nothing : schedule_of 2 (codes "0 0 -1") ≡ BadBehind (0 ∷ 0 ∷ [])
 unfolding schedule_from
 below_nothing = refl
 
@@ -38,12 +43,12 @@ two_of_two : schedule_from 2 2 [] (codes "0 1") ≡ Whole (0 ∷ 1 ∷ [])
 unfolding schedule_from
 two_of_two = refl
 
-three_of_two : schedule_from 2 2 [] (codes "0 1 0") ≡ TooLong
+three_of_two : schedule_from 2 2 [] (codes "0 1 0") ≡ TooLong (0 ∷ 1 ∷ [])
 unfolding schedule_from
 three_of_two = refl
 
 -- whatever comes third
-no_number_behind_two : schedule_from 2 2 [] (codes "0 1 x") ≡ TooLong
+no_number_behind_two : schedule_from 2 2 [] (codes "0 1 x") ≡ TooLong (0 ∷ 1 ∷ [])
 unfolding schedule_from
 no_number_behind_two = refl
 
@@ -131,3 +136,29 @@ bad_schedule_kept = refl
 -- a behaviour that trapped leaves nothing
 nothing_left : kept_of Empty 5 ≡ record { status = status.Done; text = codes "RGI1" ++ 0 ∷ [] }
 nothing_left = refl
+
+-- How often the pacers are asked
+
+-- over the events of these numbers, of one behaviour that makes an object while its cown's region is active
+abbrev asked_over : Read PlanOf → (numbers : List ℕ) → Manager → ℕ
+asked_over (Ok p) ns m = schedule_asks making.classes (setting_of making.classes p (no_images p)) ns m
+asked_over (Err line) ns m = line
+
+-- a cown whose region counts
+abbrev counting : Read PlanOf
+counting = plan_of making (lines ("cown N count" ∷ "when A.add 0" ∷ []))
+
+-- it begins, and enters the region
+not_yet : asked_over counting (0 ∷ 0 ∷ []) Count ≡ 0
+unfolding plain_from asks_from
+not_yet = refl
+
+-- it makes the object, and ends
+asked_once : asked_over counting (0 ∷ 0 ∷ 0 ∷ 0 ∷ 0 ∷ 0 ∷ 0 ∷ 0 ∷ []) Count ≡ 1
+unfolding plain_from asks_from
+asked_once = refl
+
+-- the region has the other manager
+other_pacer : asked_over counting (0 ∷ 0 ∷ 0 ∷ []) Trace ≡ 0
+unfolding plain_from asks_from
+other_pacer = refl

@@ -10,7 +10,9 @@ use Rattle.rg_sched_atomic.specs.Contents.{Content, Away, Empty, Held}
 use Rattle.rg_sched_atomic.specs.Settings.{Setting, setting_of}
 use Rattle.rg_sched_atomic.specs.Atomic.{Told, World, atomic}
 use Rattle.rg_sched_atomic.specs.Events.{world_after}
-pub use Rattle.rg_sched.specs.Schedules.{Schedule as Said, Whole, BadAt, TooLong, schedule_of}
+pub use Rattle.rg_sched.specs.Schedules.{Schedule as Said, Whole, BadBehind, TooLong, schedule_of, taken_of, item_behind}
+use Rattle.rg_sched.specs.Asking.{Asks, AskedBy, AskedUntil}
+use Rattle.rg_sched.specs.declared.stop.SchedStop.TheVariants.{InputFault as StoppedByInput}
 use Rattle.rg_world_text.specs.Text.{world_text}
 use Rattle.rg_words.specs.declared.status.Status.{Status}
 use Rattle.rg_words.specs.declared.status.Status.TheVariants as status
@@ -45,8 +47,8 @@ answer_behind t p images (Some k) numbers = kept_of (slice_index_or (told_behind
 -- behaviour the schedule has a fault, and one that has more numbers than are taken is cut short.
 abbrev pub said_answer : Tree → PlanOf → (images : List CargoList) → (keep : Option ℕ) → Said → Answer
 said_answer t p images keep (Whole numbers) = answer_behind t p images keep numbers
-said_answer t p images keep (BadAt item) = refused (record { code = Schedule; line = item })
-said_answer t p images keep TooLong = record { status = status.Spent; text = [] }
+said_answer t p images keep (BadBehind numbers) = refused (record { code = Schedule; line = item_behind numbers })
+said_answer t p images keep (TooLong numbers) = record { status = status.Spent; text = [] }
 
 -- the schedule is what the input says, the numbers of the plan's behaviours
 abbrev pub schedule_answer : Tree → PlanOf → (images : List CargoList) → (keep : Option ℕ) → (input : List ℕ) → Answer
@@ -79,3 +81,16 @@ SettlesBy expected left status.Long old new = ⊥
 abbrev pub SettlesSchedule : Tree → PlanOf → (images : List CargoList) → (keep : Option ℕ) → (left : Option (List ℕ)) → Status
     → (old new : Option (List ℕ)) → Type 0
 SettlesSchedule t p images keep left s old new = SettlesBy (schedule_answer t p images keep) left s old new
+
+-- How often the pacers were asked, by how the call ended: once for each step that asks them, over the numbers that were taken. Behind a fault of the
+-- input these are its first ones, and where no memory was found nothing is said.
+abbrev pub AskedFor : Said → Tree → PlanOf → (images : List CargoList) → Status → (before after : Asks) → Type 0
+AskedFor says t p images status.InputFault before after = AskedUntil t p images says StoppedByInput before after
+AskedFor says t p images status.Memory before after = Unit {0}
+AskedFor says t p images _ before after = AskedBy t p images (taken_of says) before after
+
+-- what was answered to a schedule on these bytes of an input, and how often its events asked the pacers
+abbrev pub DoesSchedule : Tree → PlanOf → (images : List CargoList) → (keep : Option ℕ) → (input : List ℕ) → Status → (old new : Option (List ℕ))
+    → (before after : Asks) → Type 0
+DoesSchedule t p images keep input s old new before after =
+    SettlesSchedule t p images keep (Some input) s old new × AskedFor (schedule_of (length p.behaviours) input) t p images s before after

@@ -4,8 +4,8 @@ ghost use Rattle.std.specs.Prelude.{◌<◌, length, IfSome};
 ghost use Rattle.rg_tree.specs.Rows.RowTrees.{program_of};
 ghost use Rattle.rg_contents.specs.Read.{IsReadFor};
 ghost use Rattle.rg_sched.specs.Running.{SameTuned, both};
-ghost use Rattle.rg_words.specs.Answers.{CausedBeside};
-ghost use Rattle.rg_when.specs.Scheduled.{SettlesSchedule};
+ghost use Rattle.rg_words.specs.Answers.{CausedBeside, ForInput};
+ghost use Rattle.rg_when.specs.Scheduled.{DoesSchedule, SettlesSchedule};
 
 use crate::stops::status_of;
 use crate::telling::put_behind;
@@ -39,6 +39,10 @@ pub fn run_planned<I: Source, O: Sink>(
     requires keep { IfSome keep (λ k. k < length plan.now.cowns) }
     ensures settles { SettlesSchedule (program_of accepted.now.program) plan.now images.items keep
         (I.left input.old) result (O.taken out.old) (O.taken out.new) }
+    ensures does { ForInput (I.left input.old) (λ bytes.
+        DoesSchedule (program_of accepted.now.program) plan.now images.items keep bytes result
+        (O.taken out.old) (O.taken out.new)
+        (both (tally count.old) (tally trace.old)) (both (tally count.new) (tally trace.new))) }
     ensures caused { CausedBeside result (I.faults input.old) (I.faults input.new)
         (O.faults out.old) (O.faults out.new) }
     ensures tuned { SameTuned (both (tally count.old) (tally trace.old))

@@ -23,13 +23,16 @@ use Rattle.rg_sched_atomic.specs.Atomic.{World, tell}
 use Rattle.rg_sched_atomic.specs.Events.{may_begin, one_more, steps_on, event, first_world, world_after}
 use Rattle.rg_sched_atomic.specs.Laws.{PlansAreSettings, FrontsAreEnough, AllSeparate}
 use Rattle.rg_slots.specs.declared.slot.Slot.{Slot}
+use Rattle.rg_step.specs.Pacers.{Asks}
 use Rattle.rg_step.specs.Stepping.{Stepping}
 use Rattle.rg_world.specs.declared.progress.Progress.{Progress}
 use Rattle.rg_world.specs.declared.progress.Standing.{Standing}
 use Rattle.rg_world.specs.declared.progress.Standing.TheVariants as stands
+use Rattle.rg_world.specs.Asking.{AskedMore, EventAsks, step_asks}
 use Rattle.rg_world.specs.Standing.{RunsAs, StandsAs, IsProgress}
 use Rattle.rg_world.specs.Worlds.{WorldIn, Shows, IsBehind}
 use Rattle.rg_world.specs.Inner.Steps.{all_ended_in, is_ended, runs_so, contents_with, Leaves}
+use Rattle.rg_world.proofs.Asking.{runs-ask, idle-asks}
 use Rattle.rg_world.proofs.Events.{after-push, waits, goes, done-stays, stopped-stays, contents-length, runs-length, start-length, put-away}
 use Rattle.rg_world.proofs.Shown.{told-again, runs-as, all-ended-same}
 
@@ -256,3 +259,19 @@ module _ (t : Tree) (code : Code) (p : PlanOf) (images : List CargoList) (schedu
       by stands.Done e st = behind-as m world (done-stays t.classes p.behaviours i b world st.0 there st.1 st.2) h.shows
       by (stands.Trap kind line) e st =
           behind-as m world (stopped-stays t.classes p.behaviours i b world st.0 kind line there st.1 st.2) h.shows
+
+  -- how often the pacers are asked
+
+  pub steps-ask : (q x : Progress) (u : Tree) (before after : Asks) → slice_get m.progress i ≡ Some q → runs_so q.standing ≡ true → x ≡ q → u ≡ t
+      → ((r : Ran) → StandsAs u code (Some r) x.standing → AskedMore (step_asks u.classes r.state) before after)
+      → EventAsks t p images schedule i before after
+  steps-ask q x u before after at on same tree-is does =
+      let F : Tree → Progress → Type 0 = λ u x. (r : Ran) → StandsAs u code (Some r) x.standing
+      → AskedMore (step_asks u.classes r.state) before after in
+      let here : F t q = subst (λ z. F t z) same (subst (λ z. F z x) tree-is does) in
+      let r = run-told q at on in
+      runs-ask t.classes r.0 (get_or world.told.runs i None) before after r.1 r.2 (here r.0 (progress-told q r.0 at r.1).standing)
+
+  pub idle-on : (q : Progress) (before : Asks) → slice_get m.progress i ≡ Some q → runs_so q.standing ≡ false
+      → EventAsks t p images schedule i before before
+  idle-on q before at idle = idle-asks t code (get_or world.told.runs i None) q.standing before (h.shows.each i q at).standing idle

@@ -1,5 +1,6 @@
 -- Lemmas on worlds over machines: Events is for callers, too.
 pub mod Events
+mod Asking
 mod Empty
 mod Lists
 mod Fronts

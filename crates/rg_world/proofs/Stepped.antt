@@ -32,7 +32,7 @@ use Rattle.rg_world.specs.Standing.{RunsAs}
 use Rattle.rg_world.specs.Inner.Steps.{EndsAs, Tells}
 use Rattle.rg_world.proofs.Empty.{asking-input}
 
-first-is : (items : List Item) → SomeLeft items → (first : Item) × (rest : List Item) × (items ≡ first ∷ rest)
+pub first-is : (items : List Item) → SomeLeft items → (first : Item) × (rest : List Item) × (items ≡ first ∷ rest)
 first-is [] some = absurd some
 first-is (i ∷ rest) some = (i, rest, refl)
 
@@ -123,13 +123,22 @@ tells t code r old new h q outcome.Memory sound holds shows input fault s = tt
 
 -- the input of a step: nothing is left of a source without bytes
 
-not-risen : Rose 0 0 → ⊥
+pub not-risen : Rose 0 0 → ⊥
 not-risen (inl l) = omega (arith, l)
 not-risen (inr l) = omega (arith, l)
 
 nothing-left : (xs ys : List ℕ) → [] ≡ xs ++ ys → xs ≡ []
 nothing-left [] ys e = refl
 nothing-left (x ∷ xs) ys e = absurd (cc)
+
+-- all of the step is said of the input that is there
+pub on-nothing : (code : Code) (r : Ran) (old new : Standing) (result : Outcome) (before after : Pending) → r.state.input ≡ [] → before.held ≡ []
+    → OnInput before after (Some []) (Some []) (OneStep code old new result)
+    → (input : List ℕ) × (r.state.input ≡ input) × OneStep code old new result input (after.held ++ [])
+on-nothing code r old new result before after none empty fact =
+    let read-none = nothing-left fact.0 fact.1.0 fact.1.1 in
+    let start : before.held ++ (fact.0 ++ []) ≡ [] = ap (λ z. z ++ (fact.0 ++ [])) empty ∙ ap (λ z. z ++ []) read-none in
+    (before.held ++ (fact.0 ++ []), none ∙ sym start, (fact.2 [] (record { told = refl; ended = λ e. refl })).1)
 
 asks-or-not : (b : Bool) → (b ≡ true) ⊎ (b ≡ false)
 asks-or-not true = inl refl
@@ -141,13 +150,11 @@ pub step-tells : (t : Tree) (code : Code) (r : Ran) (class : ℕ) (old new : Sta
     → UnlessAsking code (machine_in old.stepper.parts) (after ≡ before) → (result ≡ outcome.InputFault → Rose 0 0)
     → Tells t code r.state.output (one_more t.classes r) new.stepper result
 step-tells t code r class old new result before after lasts h is-first fresh fact unasked fault =
-    let read-none = nothing-left fact.0 fact.1.0 fact.1.1 in
-    let one = fact.2 [] (record { told = refl; ended = λ e. refl }) in
-    let start : before.held ++ (fact.0 ++ []) ≡ [] = ap (λ z. z ++ (fact.0 ++ [])) fresh ∙ ap (λ z. z ++ []) read-none in
-    let step = one.1.shows t r.state h.runs (h.input ∙ sym start) in
+    let here = on-nothing code r old new result before after h.input fresh fact in
+    let step = here.2.shows t r.state h.runs here.1 in
     let q = step.0 in
-    tells t code r old.stepper new.stepper h q result one.1.sound
-    (lasts t code old new result _ _ class r.state h.runs (h.input ∙ sym start) is-first h.sound h.first one.1)
+    tells t code r old.stepper new.stepper h q result here.2.sound
+    (lasts t code old new result _ _ class r.state h.runs here.1 is-first h.sound h.first here.2)
     step.2 (λ went. by q went step.3 (asks-or-not (first_asks r.state.items))) (λ e. not-risen (fault e)) step.1
   where
     by : (q : State) → next t.classes r.state ≡ Went q → q.input ≡ after.held ++ []
@@ -176,9 +183,7 @@ still-empty t code r old new result before after h empty fact unasked = by (asks
   where
     by : (first_asks r.state.items ≡ true) ⊎ (first_asks r.state.items ≡ false) → after.held ≡ []
     by (inl asks) =
-        let read-none = nothing-left fact.0 fact.1.0 fact.1.1 in
-        let one = fact.2 [] (record { told = refl; ended = λ e. refl }) in
-        let start : before.held ++ (fact.0 ++ []) ≡ [] = ap (λ z. z ++ (fact.0 ++ [])) empty ∙ ap (λ z. z ++ []) read-none in
-        let step = one.1.shows t r.state h.runs (h.input ∙ sym start) in
+        let here = on-nothing code r old new result before after h.input empty fact in
+        let step = here.2.shows t r.state h.runs here.1 in
         nothing-left after.held [] (sym (sym step.3 ∙ none-asked t r.state step.0 result asks h.input step.1))
     by (inr quiet) = ap (λ (z : Pending). z.held) (unasked t r.state h.runs quiet) ∙ empty

@@ -1,12 +1,13 @@
 //! One step of a running behaviour (docs/architecture.md, "Worlds").
 
-ghost use Rattle.std.specs.Prelude.{◌≡◌, ◌<◌, ℕ, suc, Some, length, option_map, IfOk};
+ghost use Rattle.std.specs.Prelude.{◌≡◌, ◌<◌, ℕ, suc, Some, length, option_map, IfOk, OnOk};
 ghost use Rattle.rg_tree.specs.Rows.RowTrees.{classes_of, program_of};
 ghost use Rattle.rg_rules.specs.Types.{fields_of};
 ghost use Rattle.rg_rules.specs.Runs.{Ran, Running as going};
 ghost use Rattle.rg_sched_atomic.specs.Events.{one_more};
 ghost use Rattle.rg_first.specs.First.{IsFirst, IsOfBehaviour};
 ghost use Rattle.rg_step.specs.Pacers.{SameTuned, both};
+ghost use Rattle.rg_world.specs.Asking.{AskedMore, step_asks};
 ghost use Rattle.rg_world.specs.Standing.{StandsAs, IsProgress};
 ghost use Rattle.rg_world.specs.Inner.Steps.{CameTo, Leaves};
 
@@ -50,6 +51,10 @@ fn step_on(
         IsFirst t.classes class r.state → IsOfBehaviour t class (one_more t.classes r).state →
         IfOk result (CameTo t code.now r.state.output (fields_of t.classes class)
         (one_more t.classes r) standing.new) }
+    ensures asks { let t = program_of book.now.program in (r : Ran) →
+        StandsAs t code.now (Some r) standing.old →
+        OnOk result (AskedMore (step_asks t.classes r.state)
+        (both (tally count.old) (tally trace.old)) (both (tally count.new) (tally trace.new))) }
     ensures tuned { SameTuned (both (tally count.old) (tally trace.old))
         (both (tally count.new) (tally trace.new)) }
 {
@@ -96,6 +101,10 @@ pub(crate) fn advance(
         IfOk result (λ left. Leaves (fields_of t.classes class) (one_more t.classes r)
         (option_map (λ v. v.items) left)
         × IsProgress t code.now (Some (one_more t.classes r)) (suc n) progress.new) }
+    ensures asks { let t = program_of book.now.program in (r : Ran) →
+        StandsAs t code.now (Some r) progress.old.standing →
+        OnOk result (AskedMore (step_asks t.classes r.state)
+        (both (tally count.old) (tally trace.old)) (both (tally count.new) (tally trace.new))) }
     ensures tuned { SameTuned (both (tally count.old) (tally trace.old))
         (both (tally count.new) (tally trace.new)) }
 {

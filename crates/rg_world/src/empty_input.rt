@@ -1,11 +1,12 @@
 //! The input of behaviours, which is empty (docs/architecture.md, "Worlds").
 
-ghost use Rattle.std.specs.Prelude.{◌≡◌, ℕ, [], false};
+ghost use Rattle.std.specs.Prelude.{◌≡◌, ◌≢◌, ℕ, [], false};
 ghost use Rattle.rg_tree.specs.Tree.{Tree};
 ghost use Rattle.rg_rules.specs.Runs.{Ran};
 ghost use Rattle.rg_sched_atomic.specs.Events.{one_more};
 ghost use Rattle.rg_first.specs.First.{IsFirst};
 ghost use Rattle.rg_step.specs.Pacers.{SameTuned, both};
+ghost use Rattle.rg_world.specs.Asking.{AskedMore, step_asks};
 ghost use Rattle.rg_world.specs.Standing.{RunsAs};
 ghost use Rattle.rg_world.specs.Inner.Steps.{Tells};
 
@@ -23,11 +24,14 @@ use std::marker::Model;
 struct NoBytes;
 
 impl Source for NoBytes {
-    ghost use Rattle.std.specs.Prelude.{Some, []};
+    ghost use Rattle.std.specs.Prelude.{◌≡◌, Some, []};
+    ghost use Rattle.rg_io.specs.Content.{gave};
 
     ghost faults = { λ _. 0 };
 
     ghost left = { λ _. Some [] };
+
+    ghost replies = { λ _ reply _. reply ≡ gave [] };
 
     fn read(&mut self, _buf: &mut [u8]) -> Result<usize, Failed> {
         Ok(0)
@@ -73,6 +77,9 @@ impl EmptyInput {
         ensures tells { (t : Tree) (r : Ran) (class : ℕ) → RunsAs t code.now r stepper.old →
             IsFirst t.classes class r.state →
             Tells t code.now r.state.output (one_more t.classes r) stepper.new result }
+        ensures asks { (t : Tree) (r : Ran) → RunsAs t code.now r stepper.old →
+            result ≢ Outcome.Memory → AskedMore (step_asks t.classes r.state)
+            (both (tally count.old) (tally trace.old)) (both (tally count.new) (tally trace.new)) }
         ensures tuned { SameTuned (both (tally count.old) (tally trace.old))
             (both (tally count.new) (tally trace.new)) }
     {

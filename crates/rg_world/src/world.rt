@@ -9,6 +9,7 @@ ghost use Rattle.rg_cown.specs.Cargo.{CargoList};
 ghost use Rattle.rg_plan.specs.Plans.{Turn, in_front_of};
 ghost use Rattle.rg_slots.specs.Slots.{content_seen};
 ghost use Rattle.rg_step.specs.Pacers.{SameTuned, both};
+ghost use Rattle.rg_world.specs.Asking.{EventAsks};
 ghost use Rattle.rg_world.specs.Standing.{phase_in, stepper_in};
 ghost use Rattle.rg_contents.specs.Read.{IsReadFor};
 ghost use Rattle.rg_world.specs.Worlds.{IsBehind};
@@ -110,6 +111,10 @@ impl World {
             IsBehind (program_of accepted.now.program) code.now plan.now images schedule self →
             IfOk result (IsBehind (program_of accepted.now.program) code.now plan.now images
             (schedule ++ i ∷ [])) }
+        ensures asks { (images : List CargoList) (schedule : List ℕ) →
+            IsBehind (program_of accepted.now.program) code.now plan.now images schedule self →
+            OnOk result (EventAsks (program_of accepted.now.program) plan.now images schedule i
+            (both (tally count.old) (tally trace.old)) (both (tally count.new) (tally trace.new))) }
         ensures tuned { SameTuned (both (tally count.old) (tally trace.old))
             (both (tally count.new) (tally trace.new)) }
     {
@@ -136,6 +141,10 @@ impl World {
             IsBehind (program_of accepted.now.program) code.now plan.now images schedule self.old →
             OnOk result (IsBehind (program_of accepted.now.program) code.now plan.now images
             (schedule ++ i ∷ []) self.new) }
+        ensures asks { (images : List CargoList) (schedule : List ℕ) →
+            IsBehind (program_of accepted.now.program) code.now plan.now images schedule self.old →
+            OnOk result (EventAsks (program_of accepted.now.program) plan.now images schedule i
+            (both (tally count.old) (tally trace.old)) (both (tally count.new) (tally trace.new))) }
         ensures tuned { SameTuned (both (tally count.old) (tally trace.old))
             (both (tally count.new) (tally trace.new)) }
     {
@@ -205,6 +214,10 @@ impl World {
             IsBehind (program_of accepted.now.program) code.now plan.now images schedule self.old →
             OnOk result (IsBehind (program_of accepted.now.program) code.now plan.now images
             (schedule ++ i ∷ []) self.new) }
+        ensures asks { (images : List CargoList) (schedule : List ℕ) →
+            IsBehind (program_of accepted.now.program) code.now plan.now images schedule self.old →
+            OnOk result (EventAsks (program_of accepted.now.program) plan.now images schedule i
+            (both (tally count.old) (tally trace.old)) (both (tally count.new) (tally trace.new))) }
         ensures tuned { SameTuned (both (tally count.old) (tally trace.old))
             (both (tally count.new) (tally trace.new)) }
     {

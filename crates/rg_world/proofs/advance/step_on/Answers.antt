@@ -72,3 +72,23 @@ returns-in-Trap-clause-came g c = λ r stands on first next.
           ∙ ap (λ e. put ns (left_by fields then.state e ns) cs) (sym told.0),
       told.1,
     )
+
+pub returns-in-Running-outcome-clause-asks : goal.returns-in-Running-outcome-clause-asks
+returns-in-Running-outcome-clause-asks g c = λ r stands.
+    c.in-Running-outcome.ensures.asks (program_of c.args.book.now.program) r
+    (runs-of (program_of c.args.book.now.program) c.args.code.now r c.args.standing.now c.in-Running.stepper stands c.in-Running.is) (λ e. cc)
+
+pub returns-in-Printed-clause-asks : goal.returns-in-Printed-clause-asks
+returns-in-Printed-clause-asks g c = λ r stands.
+    c.in-Printed.ensures.asks (program_of c.args.book.now.program) r
+    (runs-of (program_of c.args.book.now.program) c.args.code.now r c.args.standing.now c.in-Running.stepper stands c.in-Running.is) (λ e. cc)
+
+pub returns-in_ok-back-in-Done-clause-asks : goal.returns-in_ok-back-in-Done-clause-asks
+returns-in_ok-back-in-Done-clause-asks g c = λ r stands.
+    c.in-Done.ensures.asks (program_of c.args.book.now.program) r
+    (runs-of (program_of c.args.book.now.program) c.args.code.now r c.args.standing.now c.in-Running.stepper stands c.in-Running.is) (λ e. cc)
+
+pub returns-in-Trap-clause-asks : goal.returns-in-Trap-clause-asks
+returns-in-Trap-clause-asks g c = λ r stands.
+    c.in-Trap.ensures.asks (program_of c.args.book.now.program) r
+    (runs-of (program_of c.args.book.now.program) c.args.code.now r c.args.standing.now c.in-Running.stepper stands c.in-Running.is) (λ e. cc)

@@ -9,7 +9,7 @@ use Rattle.rg_sched_atomic.specs.Contents.{put}
 use Rattle.rg_slots.specs.declared.slot.Slot.{Slot}
 use Rattle.rg_slots.specs.Slots.{content_in}
 use Rattle.rg_world.specs.Inner.Steps.{contents_with, is_running}
-use Rattle.rg_world.proofs.Behind.{class-below, cowns-below, progress-below, advance-needs, stepped-by}
+use Rattle.rg_world.proofs.Behind.{class-below, cowns-below, progress-below, advance-needs, stepped-by, steps-ask}
 use Rattle.rg_world.proofs.Shown.{running-is}
 use Rattle.rg_world.proofs.world.World.step.Goals as goal
 
@@ -82,3 +82,27 @@ returns-clause-shows g c = λ images schedule h.
     (ap (λ (z : Known). program_of z.program) c.book.ensures.is) c.in_ok-left.ensures.goes
     (c.put.ensures ∙ ap (λ z. put z (map content_in c.in-Some.contents.items) m.contents) c.cowns.ensures
     ∙ ap (λ o. contents_with b.cowns (lists o) m.contents) (sym c.in-Some.is))
+
+pub returns-in_default-clause-asks : goal.returns-in_default-clause-asks
+returns-in_default-clause-asks g c = λ images schedule h.
+    let t = program_of c.args.accepted.now.program in
+    let m : WorldIn = record { progress = c.self.inside.progress.items; contents = c.self.inside.slots; began = c.self.inside.began.items } in
+    let here = subst (λ (z : WorldIn). IsBehind t c.args.code.now c.args.plan.now images schedule z) (sym c.self.view_is) h in
+    let q = running-is (slice_get m.progress c.args.i)
+    (subst (λ (z : WorldIn). is_running (slice_get z.progress c.args.i) ≡ true) (sym c.self.view_is) c.requires.runs) in
+    steps-ask t c.args.code.now c.args.plan.now images schedule m here c.args.i c.behaviour-turn.result.now c.behaviour-turn.ensures
+    q.0 c.index_mut.result.now (program_of c.book.result.program) _ _ q.1 q.2
+    (c.index_mut.ensures.value ∙ get_or_from_slice_get m.progress c.args.i q.0 _ q.1) (ap (λ (z : Known). program_of z.program) c.book.ensures.is)
+    c.in_ok-left.ensures.asks
+
+pub returns-clause-asks : goal.returns-clause-asks
+returns-clause-asks g c = λ images schedule h.
+    let t = program_of c.args.accepted.now.program in
+    let m : WorldIn = record { progress = c.self.inside.progress.items; contents = c.self.inside.slots; began = c.self.inside.began.items } in
+    let here = subst (λ (z : WorldIn). IsBehind t c.args.code.now c.args.plan.now images schedule z) (sym c.self.view_is) h in
+    let q = running-is (slice_get m.progress c.args.i)
+    (subst (λ (z : WorldIn). is_running (slice_get z.progress c.args.i) ≡ true) (sym c.self.view_is) c.requires.runs) in
+    steps-ask t c.args.code.now c.args.plan.now images schedule m here c.args.i c.behaviour-turn.result.now c.behaviour-turn.ensures
+    q.0 c.index_mut.result.now (program_of c.book.result.program) _ _ q.1 q.2
+    (c.index_mut.ensures.value ∙ get_or_from_slice_get m.progress c.args.i q.0 _ q.1) (ap (λ (z : Known). program_of z.program) c.book.ensures.is)
+    c.in_ok-left.ensures.asks
