@@ -1,5 +1,5 @@
 -- How often a call asked the pacers, from what the run on the machine has told.
-use Rattle.std.proofs.Common.{◌≡◌, ℕ, inl, inr, List, [], Option, Some, None, count_by, refl, sym, ◌∙◌, ap, subst, arith}
+use Rattle.std.proofs.Common.{◌≡◌, ◌⊎◌, ℕ, true, inl, inr, List, [], Option, Some, None, count_by, refl, sym, ◌∙◌, ap, subst, arith}
 use Rattle.rg_base.specs.declared.event.Event.{Event}
 use Rattle.rg_base.specs.declared.outcome.Ended.{Ended}
 use Rattle.rg_base.specs.declared.outcome.Ended.TheVariants as ended
@@ -9,24 +9,29 @@ use Rattle.rg_io.specs.Files.{Told}
 use Rattle.rg_tree.specs.Rows.Tables.{Tables}
 use Rattle.rg_tree.specs.Rows.RowTrees.{program_of}
 use Rattle.rg_rules.specs.Acceptance.{Accepted}
-use Rattle.rg_rules.specs.Outside.Asks.{asks, asks_from}
 use Rattle.rg_rules.specs.Runs.{opening, plain}
 use Rattle.rg_rules.specs.State.{State}
 use Rattle.rg_code.specs.Code.{Code}
 use Rattle.rg_code.specs.Lowering.{Lowers}
 use Rattle.rg_plain.specs.Runs.{RunShows}
-use Rattle.rg_run.specs.Asked.{Asks, YesesTold, paced_by, raised}
+use Rattle.rg_pace.specs.Asked.{Asked, with_tune}
+use Rattle.rg_run.specs.Asked.{Asks, YesesTold, both, paced_by, raised}
 use Rattle.rg_run.specs.Collected.{Tells}
 use Rattle.rg_run.specs.Machine.{Kept, IsFresh, Shows, ShowsAt}
 use Rattle.rg_run.specs.Sound.{Stands}
 use Rattle.rg_run.specs.Whole.{WholeRun}
 use Rattle.rg_run.proofs.Run.{run-of}
 use Rattle.rg_run.proofs.Sound.{stands-shown}
-use Rattle.rg_commands.specs.Asked.{AsksOver, RunAsks, SayYes, YesesOf}
-use Rattle.rg_words.specs.Commands.{Origin, generated}
-use Rattle.rg_words.specs.Answers.{ForInput}
-use Rattle.rg_sources.specs.Sources.{Sources, HasSource, Runs}
-use Rattle.rg_commands.specs.Settled.{AskedCommand, AskedFrom, RunAsked}
+use Rattle.rg_commands.specs.Asked.{IsQuiet, RunAsks, SayYes, Unasked, YesesOf, status_of_ended, tuned_to}
+use Rattle.rg_words.specs.declared.status.Status.{Status}
+use Rattle.rg_words.specs.declared.status.Status.TheVariants as status
+use Rattle.rg_words.specs.Statuses.{is_cut_off}
+use Rattle.rg_words.specs.Commands.{Command, Origin}
+use Rattle.rg_words.specs.Answers.{Answer, ForInput, PutLine}
+use Rattle.rg_sources.specs.Sources.{Sources, Runs}
+use Rattle.rg_when.specs.Scheduled.{SettlesBy}
+use Rattle.rg_commands.specs.Settled.{DoesCommand, RanFrom, RunAsked, SettlesCommand}
+use Rattle.rg_commands.proofs.Ran.{run-from}
 
 -- a run stands on the machine behind its whole steps, as it does behind all that were allowed
 stands-whole : (t : Tables) (input : List ℕ) (n : ℕ) (m : Kept) → Accepted (program_of t) → Shows t m (plain (program_of t) input n).state →
@@ -49,87 +54,139 @@ stands-at t input n m rest old new ended.InputFault a h told = stands-shown t in
 stands-at t input n m rest old new ended.OutputFault a h told = stands-shown t input m.steps m a h.stands.shows.0 (sym h.stands.made) told
 stands-at t input n m rest old new ended.Memory a h told = stands-shown t input m.steps m a h.stands.shows.0 (sym h.stands.made) told
 
--- no step has asked
-asks-first : (t : Tables) (input : List ℕ) (m : Manager) (old new : ℕ) → AsksOver (program_of t) input 0 m old new → new ≡ old
-unfolding asks_from
-asks-first t input m old new h = h
+-- a pacer that is as it was is quiet
+pub quiet-same : (old new : Asked) → new ≡ old → IsQuiet old new
+quiet-same old new e = e ∙ ap (with_tune old) (sym (ap (λ (a : Asked). a.tuned) e))
 
-asks-none : (t : Tables) (input : List ℕ) (k : ℕ) (m : Manager) (old new : ℕ) → k ≡ 0 → AsksOver (program_of t) input k m old new → new ≡ old
-asks-none t input k m old new first h =
-    let P : ℕ → Type 0 = λ q. AsksOver (program_of t) input q m old new in asks-first t input m old new (subst P first h)
+-- no run has begun, and the pacers are as they were
+pub unasked : (m : Kept) (every : ℕ) (a : Asks) → IsFresh m → Unasked m (tuned_to every a) a
+unasked m every a fresh = record { fresh = fresh; count = refl; trace = refl }
+
+-- the source of an input has some bytes
+pub some-input : (left : Option (List ℕ)) (P : List ℕ → Type 0) → ((input : List ℕ) → P input) → ForInput left P
+some-input None P h = ([], tt, h [])
+some-input (Some bytes) P h = (bytes, refl, h bytes)
+
+-- one that has nothing left has none
+pub on-empty : (P : List ℕ → Type 0) → ForInput (Some []) P → P []
+on-empty P h = subst P (sym h.1) h.2
 
 -- a run on the machine
-pub asked-from : (origin : Origin) (n : ℕ) (source : Sources) (left : Option (List ℕ)) (t : Tables) (code : Code) (m : Kept) (e : Ended)
-    (old new : Option (List ℕ)) (quiet : Type 0) (first last : Asks) (count trace : ℕ) → first.count.asks ≡ count → first.trace.asks ≡ trace →
-    Lowers (program_of t) code → Runs origin source (program_of t) →
-    ForInput left (λ input. (rest : List ℕ) × WholeRun t code n old new m e quiet first last input rest) →
-    RunAsked origin source left m count last.count.asks trace last.trace.asks
-asked-from origin n source left t code m e old new quiet first last count trace count_is trace_is lowers runs h =
-    let over = h.2.1.asked in
-    let C : ℕ → Type 0 = λ q. AsksOver (program_of t) h.0 m.steps Count q last.count.asks in
-    let T : ℕ → Type 0 = λ q. AsksOver (program_of t) h.0 m.steps Trace q last.trace.asks in
-    let counted = subst C count_is over.count in
-    let traced = subst T trace_is over.trace in
-    elim h.2.1.ran [
-      | inl none ↦ inl (record {
+pub asked-from : (origin : Origin) (n : ℕ) (source : Sources) (input rest : List ℕ) (t : Tables) (code : Code) (m : Kept) (e : Ended)
+    (old new : Option (List ℕ)) (quiet : Type 0) (first last : Asks) → Lowers (program_of t) code → Runs origin source (program_of t) →
+    WholeRun t code n old new m e quiet first last input rest → RunAsked origin source input (status_of_ended e) m first last
+asked-from origin n source input rest t code m e old new quiet first last lowers runs h =
+    elim h.ran [
+      | inl none ↦ (let same = h.unasked none.fresh.begun in inl (record {
         fresh = none.fresh;
-        count = asks-none t h.0 m.steps Count count last.count.asks none.fresh.steps counted;
-        trace = asks-none t h.0 m.steps Trace trace last.trace.asks none.fresh.steps traced;
+        count = quiet-same first.count last.count (ap (λ (a : Asks). a.count) same);
+        trace = quiet-same first.trace last.trace (ap (λ (a : Asks). a.trace) same);
+      }))
+      | inr ran ↦ inr (record {
+        tables = t;
+        runs = runs;
+        stands = stands-at t input n m rest old new e runs.accepted ran.run h.told;
+        count = h.asked.count;
+        trace = h.asked.trace;
+        code = code;
+        lowers = lowers;
+        ended = e;
+        ends = inl refl;
+        rest = rest;
+        states = h.states ran.begun;
       })
-      | inr ran ↦ inr (
-        h.0,
-        h.1,
-        record {
-          tables = t;
-          runs = runs;
-          stands = stands-at t h.0 n m h.2.0 old new e runs.accepted ran.run h.2.1.told;
-          count = counted;
-          trace = traced;
-          code = code;
-          lowers = lowers;
-          first = first;
-          last = last;
-          first_is = (count_is, trace_is);
-          last_is = (refl, refl);
-          ended = e;
-          rest = h.2.0;
-          states = h.2.1.states ran.begun;
-        },
-      )
     ]
 
--- pacers that were tuned had been asked as often before
-pub asked-tuned : (origin : Origin) (source : Sources) (left : Option (List ℕ)) (m : Kept) (c d e t u v : ℕ) → d ≡ c → u ≡ t →
-    RunAsked origin source left m d e u v → RunAsked origin source left m c e t v
-asked-tuned origin source left m c d e t u v count trace h =
-    let P : ℕ → Type 0 = λ q. RunAsked origin source left m q e u v in
-    let Q : ℕ → Type 0 = λ q. RunAsked origin source left m c e q v in
+-- what it has answered, and how it asked the pacers, on the same bytes
+pub ran-both : (origin : Origin) (n : ℕ) (source : Sources) (left : Option (List ℕ)) (t : Tables) (code : Code) (m : Kept) (e : Ended)
+    (old new : Option (List ℕ)) (quiet still : Type 0) (first last : Asks) → (quiet → still) → Lowers (program_of t) code →
+    Runs origin source (program_of t) →
+    ForInput left (λ input. (rest : List ℕ) × WholeRun t code n old new m e quiet first last input rest) →
+    ForInput left (λ input. RanFrom origin n source (Some input) (status_of_ended e) old new m still
+    × RunAsked origin source input (status_of_ended e) m first last)
+ran-both origin n source left t code m e old new quiet still first last more lowers runs h = (
+  h.0,
+  h.1,
+  (
+    run-from origin n source (Some h.0) t code m e old new quiet still first last more runs (h.0, refl, h.2),
+    asked-from origin n source h.0 h.2.0 t code m e old new quiet first last lowers runs h.2.1,
+  ),
+)
+
+-- pacers that were tuned first
+pub asked-tuned : (origin : Origin) (source : Sources) (input : List ℕ) (s : Status) (m : Kept) (c d t u : Asked) (last : Asks) → d ≡ c → u ≡ t →
+    RunAsked origin source input s m (both d u) last → RunAsked origin source input s m (both c t) last
+asked-tuned origin source input s m c d t u last count trace h =
+    let P : Asked → Type 0 = λ q. RunAsked origin source input s m (both q u) last in
+    let Q : Asked → Type 0 = λ q. RunAsked origin source input s m (both c q) last in
     subst Q trace (subst P count h)
 
--- and had said yes as often
+-- had said yes as often
 pub yeses-tuned : (m : Kept) (c d e t u v : ℕ) → d ≡ c → u ≡ t → SayYes m d e u v → SayYes m c e t v
 yeses-tuned m c d e t u v count trace h =
     let P : ℕ → Type 0 = λ q. SayYes m q e u v in
     let Q : ℕ → Type 0 = λ q. SayYes m c e q v in
     subst Q trace (subst P count h)
 
--- an empty input is the only one of a source that has nothing left
-pub asked-generated : (size : ℕ) (source : Sources) (left : Option (List ℕ)) (m : Kept) (c d t u : ℕ) →
-    RunAsked (generated size) source (Some []) m c d t u → AskedFrom (generated size) source left m c d t u
-asked-generated size source left m c d t u (inl none) = inl none
-asked-generated size source left m c d t u (inr h) =
-    let P : List ℕ → Type 0 = λ input. RunAsks (generated size) source input m c d t u in
-    inr (on-any left (subst P (sym h.1) h.2))
-  where
-    on-any : (l : Option (List ℕ)) → RunAsks (generated size) source [] m c d t u →
-        ForInput l (λ input. RunAsks (generated size) source [] m c d t u)
-    on-any None asks = ([], tt, asks)
-    on-any (Some bytes) asks = (bytes, refl, asks)
+-- what is told behind a run is its status, or that the rest was cut off
+pub asks-behind : (origin : Origin) (source : Sources) (input : List ℕ) (m : Kept) (s q : Status) (first last : Asks) →
+    (q ≡ s) ⊎ (is_cut_off q ≡ true) → RunAsks origin source input m s first last → RunAsks origin source input m q first last
+asks-behind origin source input m s q first last (inl same) h = subst (λ (x : Status). RunAsks origin source input m x first last) (sym same) h
+asks-behind origin source input m s q first last (inr cut) h = record {
+  tables = h.tables;
+  runs = h.runs;
+  stands = h.stands;
+  count = h.count;
+  trace = h.trace;
+  code = h.code;
+  lowers = h.lowers;
+  ended = h.ended;
+  ends = inr cut;
+  rest = h.rest;
+  states = h.states;
+}
 
-pub asked-command : (told : Option Told) (origin : Origin) (source : Sources) (left : Option (List ℕ)) (m : Kept) (c d t u : ℕ) →
-    HasSource told origin source → AskedFrom origin source left m c d t u → AskedCommand told origin left m c d t u
-asked-command told origin source left m c d t u has (inl none) = inl none
-asked-command told origin source left m c d t u has (inr h) = inr (source, has, h)
+pub asked-behind : (origin : Origin) (source : Sources) (input : List ℕ) (m : Kept) (s q : Status) (first last : Asks) →
+    (q ≡ s) ⊎ (is_cut_off q ≡ true) → RunAsked origin source input s m first last → RunAsked origin source input q m first last
+asked-behind origin source input m s q first last is (inl none) = inl none
+asked-behind origin source input m s q first last is (inr h) = inr (asks-behind origin source input m s q first last is h)
+
+-- a line that was given behind a run that is done
+pub line-cut : (s : Status) (line : List ℕ) (old new : Option (List ℕ)) → PutLine s line old new → (s ≡ status.Done) ⊎ (is_cut_off s ≡ true)
+line-cut status.Done line old new h = inl refl
+line-cut (status.Refused f) line old new h = absurd h
+line-cut status.Usage line old new h = absurd h
+line-cut (status.Trap kind at) line old new h = absurd h
+line-cut status.Spent line old new h = absurd h
+line-cut (status.Away n) line old new h = absurd h
+line-cut status.SourceFault line old new h = absurd h
+line-cut status.InputFault line old new h = absurd h
+line-cut status.OutputFault line old new h = inr refl
+line-cut status.Memory line old new h = inr refl
+line-cut status.Long line old new h = absurd h
+
+-- where no run has begun, what was answered is that, and the pacers weren't asked
+pub quiet-does : (told : Option Told) (c : Command) (input : List ℕ) (s : Status) (old new : Option (List ℕ)) (m : Kept) (still : Type 0)
+    (first last : Asks) → Unasked m first last → SettlesCommand told c (Some input) s old new m still →
+    DoesCommand told c input s old new m still first last
+quiet-does told c input s old new m still first last none (inl h) = inl (h.0, h.1, record { settles = h.2; asked = inl none })
+quiet-does told c input s old new m still first last none (inr (inl u)) = inr (inl (u, none))
+quiet-does told c input s old new m still first last none (inr (inr r)) = inr (inr r)
+
+-- what was answered to a schedule on an input is that on some bytes that its source has
+pub schedule-on : (expected : List ℕ → Answer) (left : Option (List ℕ)) (s : Status) (old new : Option (List ℕ)) → SettlesBy expected left s old new →
+    ForInput left (λ input. SettlesBy expected (Some input) s old new)
+schedule-on expected left status.Done old new h = (h.0, h.1, (h.0, refl, h.2))
+schedule-on expected left (status.Refused f) old new h = (h.0, h.1, (h.0, refl, h.2))
+schedule-on expected left status.Usage old new h = absurd h
+schedule-on expected left (status.Trap kind line) old new h = absurd h
+schedule-on expected left status.Spent old new h = (h.0, h.1, (h.0, refl, h.2))
+schedule-on expected left (status.Away n) old new h = (h.0, h.1, (h.0, refl, h.2))
+schedule-on expected left status.SourceFault old new h = absurd h
+schedule-on expected left status.InputFault old new h = some-input left _ (λ input. h)
+schedule-on expected left status.OutputFault old new h = (h.0, h.1, (h.0, refl, h.2))
+schedule-on expected left status.Memory old new h = (h.0, h.1, (h.0, refl, h.2))
+schedule-on expected left status.Long old new h = absurd h
 
 -- a machine on which no run has begun has no collection
 pub yeses-fresh : (m : Kept) (c d t u : ℕ) → IsFresh m → d ≡ c → u ≡ t → SayYes m c d t u

@@ -28,7 +28,7 @@ use Rattle.rg_cown.specs.Cargo.{CargoList}
 use Rattle.rg_plan.specs.Plans.{PlanOf}
 use Rattle.rg_sched_atomic.specs.Contents.{Content, Away, Empty, Held}
 use Rattle.rg_loading.specs.Laws.{LoadsComeToOne}
-use Rattle.rg_when.specs.Scheduled.{Said, Whole, BadAt, TooLong, schedule_of}
+use Rattle.rg_when.specs.Scheduled.{Said, Whole, BadBehind, TooLong, schedule_of, item_behind}
 use Rattle.rg_words.specs.declared.status.Status.TheVariants as status
 use Rattle.rg_commands.specs.Laws.{OneAnswer}
 use Rattle.rg_commands.proofs.Settled.{no_lie}
@@ -133,10 +133,10 @@ said-refused t p images keep (Whole numbers) s text r e =
     let no = behind-on t p images keep numbers in
     let same : (answer_behind t p images keep numbers).status ≡ s = ap (λ (a : Answer). a.status) e in
     absurd (no_lie (sym r ∙ sym (ap is_refusal same) ∙ no))
-said-refused t p images keep (BadAt item) s text r e =
-    let same : status.Refused (record { code = Schedule; line = item }) ≡ s = ap (λ (a : Answer). a.status) e in
+said-refused t p images keep (BadBehind numbers) s text r e =
+    let same : status.Refused (record { code = Schedule; line = item_behind numbers }) ≡ s = ap (λ (a : Answer). a.status) e in
     (subst IsBadSchedule same refl, sym (ap (λ (a : Answer). a.text) e))
-said-refused t p images keep TooLong s text r e = let same : status.Spent ≡ s = ap (λ (a : Answer). a.status) e in absurd (cc)
+said-refused t p images keep (TooLong numbers) s text r e = let same : status.Spent ≡ s = ap (λ (a : Answer). a.status) e in absurd (cc)
 
 refusal-spelt : (c : Command) (p : EndNumbers) (i j : List ℕ) (t : Tree) (s : Status) (text : List ℕ) → is_refusal s ≡ true →
     expected c p i (spelt t) ≡ record { status = s; text = text } → expected c p j (spelt t) ≡ record { status = s; text = text }

@@ -1,5 +1,5 @@
 -- From what the machines have answered to what was answered to the source.
-use Rattle.std.proofs.Common.{◌≡◌, ◌≤◌, ℕ, inl, inr, Bool, false, List, [], ◌++◌, Option, Ok, refl, sym, ◌∙◌, ap, subst, arith}
+use Rattle.std.proofs.Common.{◌≡◌, ◌≤◌, ℕ, inl, inr, Bool, false, List, [], ◌++◌, Option, Some, Ok, refl, sym, ◌∙◌, ap, subst, arith}
 use Rattle.std.specs.Result.{result_err}
 use Rattle.rg_base.specs.declared.outcome.Ended.{Ended}
 use Rattle.rg_base.specs.declared.outcome.Ended.TheVariants as ended
@@ -49,7 +49,7 @@ status-answer Done = refl
 status-answer (Stopped kind line) = refl
 
 -- a status names a fault where its ending does
-input-ended : (e : Ended) → status_of_ended e ≡ status.InputFault → e ≡ ended.InputFault
+pub input-ended : (e : Ended) → status_of_ended e ≡ status.InputFault → e ≡ ended.InputFault
 input-ended ended.InputFault is = refl
 input-ended ended.Done is = absurd cc
 input-ended ended.Spent is = absurd cc
@@ -57,7 +57,7 @@ input-ended (ended.Trap kind line) is = absurd cc
 input-ended ended.OutputFault is = absurd cc
 input-ended ended.Memory is = absurd cc
 
-output-ended : (e : Ended) → status_of_ended e ≡ status.OutputFault → e ≡ ended.OutputFault
+pub output-ended : (e : Ended) → status_of_ended e ≡ status.OutputFault → e ≡ ended.OutputFault
 output-ended ended.OutputFault is = refl
 output-ended ended.Done is = absurd cc
 output-ended ended.Spent is = absurd cc
@@ -68,6 +68,7 @@ output-ended ended.Memory is = absurd cc
 pub caused-by : (e : Ended) (i j o p n m : ℕ) → RunCaused e i j o p n m → Caused (status_of_ended e) i j o p n m
 caused-by e i j o p n m h = record {
   input_fault = λ is. h.input_fault (input-ended e is);
+  input_quiet = λ other. h.source_quiet (λ is. other (ap status_of_ended is));
   output_fault = λ is. h.output_fault (output-ended e is);
   input_never_falls = h.source_never_falls;
   output_never_falls = h.sink_never_falls;
@@ -230,3 +231,17 @@ plain-settles file n k source left t u start new_machine m e old new quiet still
     let Q : Tables → Type 0 = λ q. Runs (in_file file) source (program_of q) in
     beside-settles file n source left t (subst Q (sym same) runs) h.0 h.1 k (IsState t new_machine h.2.0) old new m still
     (λ none. more (subst N (begins.state h.0) h.2.1.1 (λ j l. none j (omega (arith, within))))) e fresh (subst P (begins.state h.0) h.2.1.0)
+
+-- on the bytes that are meant
+pub plain-on : (file : List ℕ) (n k : ℕ) (source : Sources) (left : Option (List ℕ)) (t u : Tables) (start new_machine : Machine)
+    (m : Kept) (e : Ended) (old new : Option (List ℕ)) (quiet still : Type 0) → (quiet → still) → t ≡ u →
+    Runs (in_file file) source (program_of u) → IsFresh m →
+    Begins t start → begun e k ≤ n →
+    ForInput left (λ input. (rest : List ℕ) × (RunIs t (state_of t start input) n k new_machine rest old new e
+    × (NoneAsks t (state_of t start input) (begun e k) → quiet))) →
+    ForInput left (λ input. Settles (plain file n) source (Some input) (status_of_ended e) old new m still)
+plain-on file n k source left t u start new_machine m e old new quiet still more same runs fresh begins within h = (
+  h.0,
+  h.1,
+  plain-settles file n k source (Some h.0) t u start new_machine m e old new quiet still more same runs fresh begins within (h.0, refl, h.2),
+)

@@ -9,6 +9,7 @@ use Rattle.rg_run.specs.Machine.{Kept, IsFresh}
 use Rattle.rg_words.specs.declared.status.Status.{Status}
 use Rattle.rg_words.specs.declared.status.Status.TheVariants as status
 use Rattle.rg_words.specs.Commands.{Command, Origin, origin_of}
+use Rattle.rg_words.specs.Answers.{CausedBeside}
 use Rattle.rg_sources.specs.Sources.{Sources}
 use Rattle.rg_when.specs.Scheduled.{SettlesSchedule}
 use Rattle.rg_sources.specs.Brings.{Refuses}
@@ -34,9 +35,21 @@ refuses-settles told c status.Long left old m still h fresh quiet = inl (h.0, h.
 pub refuses-caused : (told : Option Told) (origin : Origin) (s : Status) (i o n : ℕ) → Refuses told origin s → Caused s i i o o n n
 refuses-caused told origin s i o n h = record {
   input_fault = λ e. let P : Status → Type 0 = Refuses told origin in absurd (subst P e h);
+  input_quiet = λ other. refl;
   output_fault = λ e. let P : Status → Type 0 = Refuses told origin in absurd (subst P e h);
   input_never_falls = omega arith;
   output_never_falls = omega arith;
+  notes_never_fall = omega arith;
+}
+
+-- from which count the fault of a call comes that gives nothing to the notes
+pub caused-beside : (s : Status) (i j o p n : ℕ) → CausedBeside s i j o p → Caused s i j o p n n
+caused-beside s i j o p n h = record {
+  input_fault = h.input_fault;
+  input_quiet = h.input_quiet;
+  output_fault = λ e. inl (h.output_fault e);
+  input_never_falls = h.input_never_falls;
+  output_never_falls = h.output_never_falls;
   notes_never_fall = omega arith;
 }
 
@@ -44,6 +57,7 @@ refuses-caused told origin s i o n h = record {
 pub caused-unread : (s : Status) (i o p n m : ℕ) → Caused s 0 0 o p n m → Caused s i i o p n m
 caused-unread s i o p n m c = record {
   input_fault = λ e. absurd (no-fault s c.input_fault e);
+  input_quiet = λ other. refl;
   output_fault = c.output_fault;
   input_never_falls = omega arith;
   output_never_falls = c.output_never_falls;

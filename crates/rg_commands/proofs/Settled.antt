@@ -1,5 +1,5 @@
 -- What was answered to a source, where a run stands at a whole step, and where the input is as it was.
-use Rattle.std.proofs.Common.{◌≡◌, ℕ, ◌+◌, ◌⊎◌, inl, inr, true, false, List, [], ◌∷◌, ◌++◌, ◌-◌, Option, refl, sym, ◌∙◌, ap, subst}
+use Rattle.std.proofs.Common.{◌≡◌, ℕ, ◌+◌, ◌⊎◌, inl, inr, true, false, List, [], ◌∷◌, ◌++◌, ◌-◌, Option, Some, refl, sym, ◌∙◌, ap, subst}
 use Rattle.std.proofs.Common.{arith, append_assoc}
 use Rattle.rg_base.specs.declared.outcome.EndNumbers.{EndNumbers}
 use Rattle.rg_base.specs.Text.{text}
@@ -11,6 +11,7 @@ use Rattle.rg_rules.specs.State.{State}
 use Rattle.rg_rules.specs.Runs.{Ending, Running, Done, Stopped, opening}
 use Rattle.rg_rules.specs.Runs as rules
 use Rattle.rg_rules.specs.Outside.Texts.{text_of, added}
+use Rattle.rg_run.specs.Asked.{Asks}
 use Rattle.rg_run.specs.Machine.{Kept, Shows, numbers_of}
 use Rattle.rg_run.specs.Sound.{Stands}
 use Rattle.rg_run.proofs.Sound.{stands-shown}
@@ -21,7 +22,8 @@ use Rattle.rg_words.specs.Commands.{Command, run, plain, fmt, check, code, pack,
 use Rattle.rg_sources.specs.Sources.{Sources}
 use Rattle.rg_commands.specs.Expected.{text_after, line_behind}
 use Rattle.rg_commands.specs.CutOff.{Untouched, StandsAfter, bulk_added}
-use Rattle.rg_commands.specs.Settled.{EndsWell, StopsRun, CutOff, Settles}
+use Rattle.rg_commands.specs.Asked.{Unasked}
+use Rattle.rg_commands.specs.Settled.{EndsWell, StopsRun, CutOff, Settles, Does}
 
 pub no_lie : true ≡ false → ⊥
 no_lie e = cc
@@ -119,3 +121,17 @@ module _ (source : Sources) (left old new : Option (List ℕ)) (m : Kept) (still
   settles-still c status.OutputFault e h = untouched-still c h e
   settles-still c status.Memory e h = untouched-still c h e
   settles-still c status.Long e h = (h.0, (h.1.0, h.1.1, quiet))
+
+-- So does what it answered, and whom its run asked.
+pub does-still : {c : Command} {source : Sources} {input : List ℕ} {s : Status} {old new : Option (List ℕ)} {m : Kept} {still : Type 0}
+    {first last : Asks} → reads_input c ≡ false → still → Does c source input s old new m (Unit {0}) first last →
+    Does c source input s old new m still first last
+does-still {c} {source} {input} {s} {old} {new} {m} {still} reads quiet h =
+    record { settles = settles-still source (Some input) old new m still quiet c s reads h.settles; asked = h.asked }
+
+-- where it runs nothing, nobody was asked
+pub quiet-still : {c : Command} {source : Sources} {input : List ℕ} {s : Status} {old new : Option (List ℕ)} {m : Kept} {still : Type 0}
+    {first last : Asks} → reads_input c ≡ false → still → Settles c source (Some input) s old new m (Unit {0}) → Unasked m first last →
+    Does c source input s old new m still first last
+quiet-still {c} {source} {input} {s} {old} {new} {m} {still} reads quiet h none =
+    record { settles = settles-still source (Some input) old new m still quiet c s reads h; asked = inl none }

@@ -1,10 +1,8 @@
 -- What a command has answered and left, by its status (docs/promises.md).
-use Rattle.std.specs.Prelude.{◌≡◌, ◌≤◌, ◌+◌, ℕ, ◌⊎◌, Bool, true, false, List, [], ◌++◌, take, length, Option, Some}
+use Rattle.std.specs.Prelude.{◌≡◌, ◌≢◌, ◌≤◌, ◌+◌, ℕ, ◌⊎◌, Bool, true, false, List, [], ◌++◌, take, length, Option, Some}
 use Rattle.rg_base.specs.declared.event.Event.{Event}
 use Rattle.rg_base.specs.declared.fault.Fault.{Fault}
 use Rattle.rg_base.specs.declared.limits.TheConstants.{MOST_STEPS}
-use Rattle.rg_base.specs.declared.outcome.Ended.{Ended}
-use Rattle.rg_base.specs.declared.outcome.Ended.TheVariants as ended
 use Rattle.rg_io.specs.Content.{Rose, Appends}
 use Rattle.rg_io.specs.Files.{Told}
 use Rattle.rg_tree.specs.Tree.{Tree}
@@ -19,7 +17,9 @@ use Rattle.rg_rules.specs.Outside.Texts.{added}
 use Rattle.rg_run.specs.Machine.{Kept, IsFresh, numbers_of}
 use Rattle.rg_run.specs.Reports.{event_lines, AreCutLines}
 use Rattle.rg_run.specs.Sound.{Stands, NeverAsks}
+pub use Rattle.rg_commands.specs.Asked.{status_of_ended}
 use Rattle.rg_commands.specs.Asked.{Unasked, RunAsks, input_for}
+use Rattle.rg_run.specs.Asked.{Asks}
 use Rattle.rg_words.specs.declared.status.Status.{Status}
 use Rattle.rg_words.specs.declared.status.Status.TheVariants as status
 use Rattle.rg_words.specs.Commands.{Command, run, plain, fmt, check, code, pack, bulk, exec, when, Origin, in_file, generated, in_module}
@@ -32,15 +32,6 @@ use Rattle.rg_commands.specs.Expected.{status_of, accepted_text, listed_text, pa
 use Rattle.rg_commands.specs.CutOff.{Untouched, StandsAfter, AsksAfter, CutOffAt, CutAtInput}
 use Rattle.rg_cown.specs.Cargo.{CargoList}
 use Rattle.rg_plan.specs.Plans.{PlanOf}
-
--- the status of a run
-abbrev pub status_of_ended : Ended → Status
-status_of_ended ended.Done = status.Done
-status_of_ended ended.Spent = status.Spent
-status_of_ended (ended.Trap kind line) = status.Trap kind line
-status_of_ended ended.InputFault = status.InputFault
-status_of_ended ended.OutputFault = status.OutputFault
-status_of_ended ended.Memory = status.Memory
 
 -- a whole run on the machine, of the program that comes from there, with that status
 pub record RanWhole (origin : Origin) (n : ℕ) (source : Sources) (left : Option (List ℕ)) (s : Status) (old new : Option (List ℕ)) (m : Kept)
@@ -225,10 +216,11 @@ SettlesCommand told c left s old new m still =
     ((source : Sources) × HasSource told (origin_of c) source × Settles c source left s old new m still)
     ⊎ ((Unread told c s × Untouched m old new still) ⊎ RanSchedule told c left s old new m)
 
--- A call names a fault of the input only where its count rose, and one of the output only where its own count or that of the notes rose; and no
--- count falls.
+-- A call names a fault of the input where its count rose, and only there, and one of the output only where its own count or that of the notes rose;
+-- and no count falls.
 pub record Caused (s : Status) (input_old input_new out_old out_new notes_old notes_new : ℕ) : Type 0 where
   pub input_fault : s ≡ status.InputFault → Rose input_old input_new
+  pub input_quiet : s ≢ status.InputFault → input_new ≡ input_old
   pub output_fault : s ≡ status.OutputFault → Rose out_old out_new ⊎ Rose notes_old notes_new
   pub input_never_falls : input_old ≤ input_new
   pub output_never_falls : out_old ≤ out_new
@@ -258,21 +250,19 @@ Tunes c m count trace = runs_on c ≡ true → ¬ IsFresh m → (count ≡ every
 abbrev pub Chooses : Command → Kept → Type 0
 Chooses c m = ¬ IsFresh m → m.stepper.slides ≡ is_slide c
 
--- how often a run of a program that comes from there asked the pacers, on an input that its source has
-abbrev pub RunAsked : Origin → (source : Sources) → (left : Option (List ℕ)) → Kept → (count_old count_new trace_old trace_new : ℕ) → Type 0
-RunAsked origin source left m count_old count_new trace_old trace_new =
-    Unasked m count_old count_new trace_old trace_new
-    ⊎ ForInput left (λ input. RunAsks origin source input m count_old count_new trace_old trace_new)
+-- how a run of a program that comes from there asked the pacers, on these bytes of an input
+abbrev pub RunAsked : Origin → (source : Sources) (input : List ℕ) → Status → Kept → (first last : Asks) → Type 0
+RunAsked origin source input s m first last = Unasked m first last ⊎ RunAsks origin source input m s first last
 
--- the same of what a command did with its program
-abbrev pub AskedFrom : Origin → (source : Sources) → (left : Option (List ℕ)) → Kept → (count_old count_new trace_old trace_new : ℕ) → Type 0
-AskedFrom origin source left m count_old count_new trace_old trace_new =
-    Unasked m count_old count_new trace_old trace_new
-    ⊎ ForInput left (λ input. RunAsks origin source (input_for origin input) m count_old count_new trace_old trace_new)
+-- What was answered to a source on these bytes of an input, and how the pacers were asked for it.
+pub record Does (c : Command) (source : Sources) (input : List ℕ) (s : Status) (old new : Option (List ℕ)) (m : Kept) (still : Type 0)
+    (first last : Asks) : Type 0 where
+  pub settles : Settles c source (Some input) s old new m still
+  pub asked : RunAsked (origin_of c) source (input_for (origin_of c) input) s m first last
 
--- and of a command, with a source that its program has
-abbrev pub AskedCommand : Option Told → Origin → (left : Option (List ℕ)) → Kept → (count_old count_new trace_old trace_new : ℕ) → Type 0
-AskedCommand told origin left m count_old count_new trace_old trace_new =
-    Unasked m count_old count_new trace_old trace_new
-    ⊎ ((source : Sources) × HasSource told origin source
-    × ForInput left (λ input. RunAsks origin source (input_for origin input) m count_old count_new trace_old trace_new))
+-- What was answered to a command on these bytes of an input, with a source that its program has.
+abbrev pub DoesCommand : Option Told → Command → (input : List ℕ) → Status → (old new : Option (List ℕ)) → Kept → (still : Type 0)
+    → (first last : Asks) → Type 0
+DoesCommand told c input s old new m still first last =
+    ((source : Sources) × HasSource told (origin_of c) source × Does c source input s old new m still first last)
+    ⊎ (((Unread told c s × Untouched m old new still) × Unasked m first last) ⊎ RanSchedule told c (Some input) s old new m)

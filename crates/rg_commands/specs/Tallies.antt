@@ -1,31 +1,28 @@
 -- What is said of the pacers, by the tallies that they tell before a call and behind it (docs/promises.md).
-use Rattle.std.specs.Prelude.{◌≡◌, ℕ, List, Option}
-use Rattle.rg_io.specs.Files.{Told}
+use Rattle.std.specs.Prelude.{◌≡◌, ℕ, List}
 use Rattle.rg_pace.specs.Asked.{Asked}
+use Rattle.rg_run.specs.Asked.{both}
 use Rattle.rg_run.specs.Machine.{Kept}
 use Rattle.rg_sources.specs.Sources.{Sources}
-use Rattle.rg_commands.specs.Settled.{RunAsked, AskedFrom, AskedCommand}
-use Rattle.rg_commands.specs.Asked.{SayYes}
+use Rattle.rg_commands.specs.Settled.{RunAsked}
+use Rattle.rg_commands.specs.Asked.{SayYes, tuned_to}
+use Rattle.rg_words.specs.declared.status.Status.{Status}
 use Rattle.rg_words.specs.Commands.{Origin}
 
 -- both pacers are tuned to that number
 abbrev pub TunedTo : ℕ → (count trace : Asked) → Type 0
 TunedTo every count trace = (count.tuned ≡ every) × (trace.tuned ≡ every)
 
--- how often a run of a program that comes from there asked them
-abbrev pub RunAskedOf : Origin → (source : Sources) → (left : Option (List ℕ)) → Kept → (count_old count_new trace_old trace_new : Asked) → Type 0
-RunAskedOf origin source left m count_old count_new trace_old trace_new =
-    RunAsked origin source left m count_old.asks count_new.asks trace_old.asks trace_new.asks
+-- how a run of a program that comes from there asked them, on these bytes of an input
+abbrev pub RunAskedBy : Origin → (source : Sources) (input : List ℕ) → Status → Kept → (count_old count_new trace_old trace_new : Asked) → Type 0
+RunAskedBy origin source input s m count_old count_new trace_old trace_new =
+    RunAsked origin source input s m (both count_old trace_old) (both count_new trace_new)
 
--- how often a command asked them with its program
-abbrev pub AskedFromOf : Origin → (source : Sources) → (left : Option (List ℕ)) → Kept → (count_old count_new trace_old trace_new : Asked) → Type 0
-AskedFromOf origin source left m count_old count_new trace_old trace_new =
-    AskedFrom origin source left m count_old.asks count_new.asks trace_old.asks trace_new.asks
-
--- and with a source that its program has
-abbrev pub AskedCommandOf : Option Told → Origin → (left : Option (List ℕ)) → Kept → (count_old count_new trace_old trace_new : Asked) → Type 0
-AskedCommandOf told origin left m count_old count_new trace_old trace_new =
-    AskedCommand told origin left m count_old.asks count_new.asks trace_old.asks trace_new.asks
+-- and where they were tuned to a number first
+abbrev pub RunAskedOf : Origin → (every : ℕ) → (source : Sources) (input : List ℕ) → Status → Kept
+    → (count_old count_new trace_old trace_new : Asked) → Type 0
+RunAskedOf origin every source input s m count_old count_new trace_old trace_new =
+    RunAsked origin source input s m (tuned_to every (both count_old trace_old)) (both count_new trace_new)
 
 -- how often they said yes
 abbrev pub SayYesOf : Kept → (count_old count_new trace_old trace_new : Asked) → Type 0

@@ -1,7 +1,6 @@
 //! `bulk N`: runs a generated program without an input, and tells the numbers of the machine.
 
-ghost use Rattle.std.specs.Prelude.{◌≡◌, ℕ, List, Option, Some};
-ghost use Rattle.std.specs.Prelude.{[]};
+ghost use Rattle.std.specs.Prelude.{◌≡◌, ℕ, List};
 ghost use Rattle.rg_base.specs.Report as report;
 ghost use Rattle.rg_tree.specs.Rows.RowTrees.{program_of};
 ghost use Rattle.rg_run.specs.Machine.{IsFresh, numbers_of};
@@ -10,8 +9,8 @@ ghost use Rattle.rg_rules.specs.Names.{FewNames};
 ghost use Rattle.rg_words.specs.Commands.{bulk, generated};
 ghost use Rattle.rg_words.specs.Answers.{PutLine, CausedByOutput};
 ghost use Rattle.rg_sources.specs.Sources.{Sources, spelt, MeansFrom, Runs};
-ghost use Rattle.rg_commands.specs.Setting.{IsLent, SlidesOn, SettlesIn, CausedIn};
-ghost use Rattle.rg_commands.specs.Tallies.{TunedTo, RunAskedOf, SayYesOf};
+ghost use Rattle.rg_commands.specs.Setting.{IsLent, SlidesOn, DoesIn, CausedIn};
+ghost use Rattle.rg_commands.specs.Tallies.{TunedTo, SayYesOf};
 
 use crate::setting::{NoInput, Setting};
 use rg_base::{MOST_STEPS, Stop};
@@ -50,15 +49,12 @@ impl<O: Sink, R: Sink> Setting<'_, O, R> {
         trace: &mut dyn Pacer,
     ) -> Status
         requires { IsFresh self.old.machine.now }
-        ensures settles { (source : Sources) (left : Option (List ℕ)) →
+        ensures settles { (source : Sources) (bytes : List ℕ) →
             Runs (generated size) source (program_of accepted.now.program) →
-            SettlesIn O.taken (bulk size) source left result self.old self.new (Unit {0}) }
+            DoesIn O.taken (bulk size) source bytes result self.old self.new (Unit {0})
+            (tally count.old) (tally count.new) (tally trace.old) (tally trace.new) }
         ensures notes { R.taken self.new.notes.now ≡ R.taken self.old.notes.now }
         ensures tuned { TunedTo 0 (tally count.new) (tally trace.new) }
-        ensures asked { (source : Sources) →
-            Runs (generated size) source (program_of accepted.now.program) →
-            RunAskedOf (generated size) source (Some []) self.new.machine.now
-            (tally count.old) (tally count.new) (tally trace.old) (tally trace.new) }
         ensures yeses { SayYesOf self.new.machine.now
             (tally count.old) (tally count.new) (tally trace.old) (tally trace.new) }
         ensures caused { CausedIn O.faults R.faults result 0 0 self.old self.new }
@@ -89,16 +85,13 @@ impl<O: Sink, R: Sink> Setting<'_, O, R> {
         requires fresh { IsFresh self.old.machine.now }
         requires names { FewNames (program_of program) }
         requires accepted { IsAccepted (program_of program) }
-        ensures settles { (source : Sources) (left : Option (List ℕ)) →
+        ensures settles { (source : Sources) (bytes : List ℕ) →
             MeansFrom (generated size) source (spelt (program_of program)) →
-            SettlesIn O.taken (bulk size) source left result self.old self.new (Unit {0}) }
+            DoesIn O.taken (bulk size) source bytes result self.old self.new (Unit {0})
+            (tally count.old) (tally count.new) (tally trace.old) (tally trace.new) }
         ensures notes { R.taken self.new.notes.now ≡ R.taken self.old.notes.now }
         ensures tuned { ¬ IsFresh self.new.machine.now →
             TunedTo 0 (tally count.new) (tally trace.new) }
-        ensures asked { (source : Sources) →
-            MeansFrom (generated size) source (spelt (program_of program)) →
-            RunAskedOf (generated size) source (Some []) self.new.machine.now
-            (tally count.old) (tally count.new) (tally trace.old) (tally trace.new) }
         ensures yeses { SayYesOf self.new.machine.now
             (tally count.old) (tally count.new) (tally trace.old) (tally trace.new) }
         ensures caused { CausedIn O.faults R.faults result 0 0 self.old self.new }

@@ -8,13 +8,14 @@ ghost use Rattle.rg_run.specs.Asked.{SameTuned, both};
 ghost use Rattle.rg_words.specs.Commands.{origin_of, opens_file, reads_input, is_slide};
 ghost use Rattle.rg_words.specs.Commands.{runs_on, is_scheduled};
 ghost use Rattle.rg_words.specs.Requests.{command_of, command_for, AsksWithin, TaskWithin};
+ghost use Rattle.rg_words.specs.Answers.{ForInput};
 ghost use Rattle.rg_sources.specs.Sources.{Sources, spelt, MeansFrom};
 ghost use Rattle.rg_sources.specs.Brings.{Serves};
 ghost use Rattle.rg_sources.specs.Opens.{Opens};
 ghost use Rattle.rg_commands.specs.Settled.{Tunes, Chooses};
-ghost use Rattle.rg_commands.specs.Setting.{IsUnused, IsLent, SlidesTo, SettlesIn};
-ghost use Rattle.rg_commands.specs.Setting.{SettlesCommandIn, CausedIn, ReportedOf};
-ghost use Rattle.rg_commands.specs.Tallies.{AskedFromOf, AskedCommandOf, SayYesOf};
+ghost use Rattle.rg_commands.specs.Setting.{IsUnused, IsLent, SlidesTo, DoesIn};
+ghost use Rattle.rg_commands.specs.Setting.{DoesCommandIn, CausedIn, ReportedOf};
+ghost use Rattle.rg_commands.specs.Tallies.{SayYesOf};
 
 use crate::check::check_program;
 use crate::code::list_program;
@@ -42,11 +43,10 @@ impl<O: Sink, R: Sink> Setting<'_, O, R> {
         requires program { Serves (command_of request) (program_of program) }
         ensures settles { (source : Sources) →
             MeansFrom (origin_of (command_of request.entry)) source (spelt (program_of program)) →
-            SettlesIn O.taken (command_of request.entry) source (I.left input.old) result
+            ForInput (I.left input.old) (λ bytes.
+            DoesIn O.taken (command_of request.entry) source bytes result
             self.old self.new (input.new ≡ input.old)
-            × AskedFromOf (origin_of (command_of request.entry)) source (I.left input.old)
-            self.new.machine.now
-            (tally count.old) (tally count.new) (tally trace.old) (tally trace.new) }
+            (tally count.old) (tally count.new) (tally trace.old) (tally trace.new)) }
         ensures reads_nothing { reads_input (command_of request.entry) ≡ false →
             input.new ≡ input.old }
         ensures notes { ReportedOf R.taken (command_of request.entry) result self.old self.new }
@@ -85,8 +85,9 @@ impl<O: Sink, R: Sink> Setting<'_, O, R> {
     ) -> Status
         requires unused { IsUnused self.old }
         requires within { AsksWithin request }
-        ensures settles { SettlesCommandIn O.taken (F.told files.old) (command_of request.entry)
-            (I.left input.old) result self.old self.new (input.new ≡ input.old) }
+        ensures settles { DoesCommandIn O.taken (F.told files.old) (command_of request.entry)
+            (I.left input.old) result self.old self.new (input.new ≡ input.old)
+            (tally count.old) (tally count.new) (tally trace.old) (tally trace.new) }
         ensures opened { BegunAre (Opens (F.told files.old)
             (origin_of (command_of request.entry))) (F.begun files.old) (F.begun files.new) }
         ensures files_unread { opens_file (command_of request.entry) ≡ false →
@@ -100,9 +101,6 @@ impl<O: Sink, R: Sink> Setting<'_, O, R> {
             SameTuned (both (tally count.old) (tally trace.old))
             (both (tally count.new) (tally trace.new)) }
         ensures slides { Chooses (command_of request.entry) self.new.machine.now }
-        ensures asked { AskedCommandOf (F.told files.old) (origin_of (command_of request.entry))
-            (I.left input.old) self.new.machine.now
-            (tally count.old) (tally count.new) (tally trace.old) (tally trace.new) }
         ensures yeses { SayYesOf self.new.machine.now
             (tally count.old) (tally count.new) (tally trace.old) (tally trace.new) }
         ensures source_fault { result ≡ Status.SourceFault →
@@ -129,8 +127,9 @@ impl<O: Sink, R: Sink> Setting<'_, O, R> {
     ) -> Status
         requires unused { IsUnused self.old }
         requires within { TaskWithin task }
-        ensures settles { SettlesCommandIn O.taken (F.told files.old) (command_for task.entry)
-            (I.left input.old) result self.old self.new (input.new ≡ input.old) }
+        ensures settles { DoesCommandIn O.taken (F.told files.old) (command_for task.entry)
+            (I.left input.old) result self.old self.new (input.new ≡ input.old)
+            (tally count.old) (tally count.new) (tally trace.old) (tally trace.new) }
         ensures opened { BegunAre (Opens (F.told files.old) (origin_of (command_for task.entry)))
             (F.begun files.old) (F.begun files.new) }
         ensures files_unread { opens_file (command_for task.entry) ≡ false →
@@ -144,10 +143,6 @@ impl<O: Sink, R: Sink> Setting<'_, O, R> {
             SameTuned (both (tally count.old) (tally trace.old))
             (both (tally count.new) (tally trace.new)) }
         ensures slides { Chooses (command_for task.entry) self.new.machine.now }
-        ensures asked { is_scheduled (command_for task.entry) ≡ false →
-            AskedCommandOf (F.told files.old) (origin_of (command_for task.entry))
-            (I.left input.old) self.new.machine.now
-            (tally count.old) (tally count.new) (tally trace.old) (tally trace.new) }
         ensures yeses { is_scheduled (command_for task.entry) ≡ false →
             SayYesOf self.new.machine.now
             (tally count.old) (tally count.new) (tally trace.old) (tally trace.new) }

@@ -3,10 +3,10 @@
 ghost use Rattle.std.specs.Prelude.{◌≡◌, ◌≤◌, ◌++◌, ◌∷◌, [], false};
 ghost use Rattle.rg_io.specs.Content.{Rose};
 ghost use Rattle.rg_run.specs.Machine.{IsFresh};
-ghost use Rattle.rg_words.specs.Commands.{exec, in_module};
-ghost use Rattle.rg_commands.specs.Setting.{IsUnused, IsLent, SlidesTo, SettlesCommandIn};
+ghost use Rattle.rg_words.specs.Commands.{exec};
+ghost use Rattle.rg_commands.specs.Setting.{IsUnused, IsLent, SlidesTo, DoesCommandIn};
 ghost use Rattle.rg_commands.specs.Setting.{ReportedIn, CausedIn};
-ghost use Rattle.rg_commands.specs.Tallies.{TunedTo, AskedCommandOf, SayYesOf};
+ghost use Rattle.rg_commands.specs.Tallies.{TunedTo, SayYesOf};
 
 use crate::setting::Setting;
 use rg_io::{Files, Sink, Source};
@@ -26,16 +26,14 @@ impl<O: Sink, R: Sink> Setting<'_, O, R> {
         trace: &mut dyn Pacer,
     ) -> Status
         requires { IsUnused self.old }
-        ensures settles { SettlesCommandIn O.taken (F.told files.old)
+        ensures settles { DoesCommandIn O.taken (F.told files.old)
             (exec file.now options.steps options.every options.report)
-            (I.left input.old) result self.old self.new (input.new ≡ input.old) }
+            (I.left input.old) result self.old self.new (input.new ≡ input.old)
+            (tally count.old) (tally count.new) (tally trace.old) (tally trace.new) }
         ensures begun { F.begun files.new ≡ F.begun files.old ++ file.now ∷ [] }
         ensures notes { ReportedIn R.taken options.report result self.old self.new }
         ensures tuned { ¬ IsFresh self.new.machine.now →
             TunedTo options.every (tally count.new) (tally trace.new) }
-        ensures asked { AskedCommandOf (F.told files.old) (in_module file.now)
-            (I.left input.old) self.new.machine.now
-            (tally count.old) (tally count.new) (tally trace.old) (tally trace.new) }
         ensures yeses { SayYesOf self.new.machine.now
             (tally count.old) (tally count.new) (tally trace.old) (tally trace.new) }
         ensures source_fault { result ≡ Status.SourceFault →

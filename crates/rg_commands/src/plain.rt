@@ -1,11 +1,11 @@
 //! `plain FILE [--steps N]`: runs a program on the machine that never frees.
 
-ghost use Rattle.std.specs.Prelude.{◌≡◌, ℕ, List};
+ghost use Rattle.std.specs.Prelude.{◌≡◌, ℕ, List, Some};
 ghost use Rattle.rg_tree.specs.Rows.RowTrees.{program_of};
 ghost use Rattle.rg_run.specs.Machine.{IsFresh, Kept};
 ghost use Rattle.rg_rules.specs.Names.{FewNames};
 ghost use Rattle.rg_words.specs.Commands.{plain, in_file};
-ghost use Rattle.rg_words.specs.Answers.{CausedBeside};
+ghost use Rattle.rg_words.specs.Answers.{CausedBeside, ForInput};
 ghost use Rattle.rg_sources.specs.Sources.{Sources, spelt, Means, Runs};
 ghost use Rattle.rg_commands.specs.Settled.{Settles};
 
@@ -29,8 +29,8 @@ fn plain_accepted<I: Source, O: Sink>(
 ) -> Status
     ensures settles { (file : List ℕ) (source : Sources) (m : Kept) →
         Runs (in_file file) source (program_of accepted.now.program) → IsFresh m →
-        Settles (plain file steps) source (I.left input.old) result
-        (O.taken out.old) (O.taken out.new) m (input.new ≡ input.old) }
+        ForInput (I.left input.old) (λ bytes. Settles (plain file steps) source (Some bytes) result
+        (O.taken out.old) (O.taken out.new) m (input.new ≡ input.old)) }
     ensures caused { CausedBeside result (I.faults input.old) (I.faults input.new)
         (O.faults out.old) (O.faults out.new) }
 {
@@ -55,8 +55,8 @@ pub(crate) fn plain_program<I: Source, O: Sink>(
     requires { FewNames (program_of program) }
     ensures settles { (file : List ℕ) (source : Sources) (m : Kept) →
         Means source.file (spelt (program_of program)) → IsFresh m →
-        Settles (plain file steps) source (I.left input.old) result
-        (O.taken out.old) (O.taken out.new) m (input.new ≡ input.old) }
+        ForInput (I.left input.old) (λ bytes. Settles (plain file steps) source (Some bytes) result
+        (O.taken out.old) (O.taken out.new) m (input.new ≡ input.old)) }
     ensures caused { CausedBeside result (I.faults input.old) (I.faults input.new)
         (O.faults out.old) (O.faults out.new) }
 {

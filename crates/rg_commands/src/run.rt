@@ -5,11 +5,12 @@ ghost use Rattle.rg_tree.specs.Rows.RowTrees.{program_of};
 ghost use Rattle.rg_code.specs.Lowering.{Lowers};
 ghost use Rattle.rg_run.specs.Machine.{IsFresh};
 ghost use Rattle.rg_rules.specs.Names.{FewNames};
-ghost use Rattle.rg_words.specs.Commands.{run, Origin, in_file};
+ghost use Rattle.rg_words.specs.Answers.{ForInput};
+ghost use Rattle.rg_words.specs.Commands.{run, Origin};
 ghost use Rattle.rg_sources.specs.Sources.{Sources, spelt, Means, Runs};
-ghost use Rattle.rg_commands.specs.Setting.{IsUnused, IsLent, SlidesOn, SlidesTo, RanIn, SettlesIn};
+ghost use Rattle.rg_commands.specs.Setting.{IsUnused, IsLent, SlidesOn, SlidesTo, RanIn, DoesIn};
 ghost use Rattle.rg_commands.specs.Setting.{ReportedIn, CausedIn, PacedIn};
-ghost use Rattle.rg_commands.specs.Tallies.{TunedTo, RunAskedOf, SayYesOf};
+ghost use Rattle.rg_commands.specs.Tallies.{TunedTo, RunAskedBy, RunAskedOf, SayYesOf};
 
 use crate::ended::status_of;
 use crate::setting::Setting;
@@ -57,10 +58,11 @@ impl<O: Sink, R: Sink> Setting<'_, O, R> {
         requires lowers { Lowers (program_of lowered.now.accepted.now.program) lowered.now.code }
         ensures ran { (origin : Origin) (source : Sources) →
             Runs origin source (program_of lowered.now.accepted.now.program) →
-            RanIn O.taken origin options.steps source (I.left input.old) result
+            ForInput (I.left input.old) (λ bytes.
+            RanIn O.taken origin options.steps source bytes result
             self.old self.new (input.new ≡ input.old)
-            × RunAskedOf origin source (I.left input.old) self.new.machine.now
-            (tally count.old) (tally count.new) (tally trace.old) (tally trace.new) }
+            × RunAskedBy origin source bytes result self.new.machine.now
+            (tally count.old) (tally count.new) (tally trace.old) (tally trace.new)) }
         ensures notes { ReportedIn R.taken options.report result self.old self.new }
         ensures paced { PacedIn self.new
             (tally count.old) (tally count.new) (tally trace.old) (tally trace.new) }
@@ -96,14 +98,13 @@ impl<O: Sink, R: Sink> Setting<'_, O, R> {
         requires { IsFresh self.old.machine.now }
         ensures ran { (origin : Origin) (source : Sources) →
             Runs origin source (program_of accepted.now.program) →
-            RanIn O.taken origin options.steps source (I.left input.old) result
-            self.old self.new (input.new ≡ input.old) }
+            ForInput (I.left input.old) (λ bytes.
+            RanIn O.taken origin options.steps source bytes result
+            self.old self.new (input.new ≡ input.old)
+            × RunAskedOf origin options.every source bytes result self.new.machine.now
+            (tally count.old) (tally count.new) (tally trace.old) (tally trace.new)) }
         ensures notes { ReportedIn R.taken options.report result self.old self.new }
         ensures tuned { TunedTo options.every (tally count.new) (tally trace.new) }
-        ensures asked { (origin : Origin) (source : Sources) →
-            Runs origin source (program_of accepted.now.program) →
-            RunAskedOf origin source (I.left input.old) self.new.machine.now
-            (tally count.old) (tally count.new) (tally trace.old) (tally trace.new) }
         ensures yeses { SayYesOf self.new.machine.now
             (tally count.old) (tally count.new) (tally trace.old) (tally trace.new) }
         ensures caused { CausedIn O.faults R.faults result (I.faults input.old) (I.faults input.new)
@@ -132,15 +133,13 @@ impl<O: Sink, R: Sink> Setting<'_, O, R> {
         requires names { FewNames (program_of program) }
         ensures settles { (file : List ℕ) (source : Sources) →
             Means source.file (spelt (program_of program)) →
-            SettlesIn O.taken (run options.slides file options.steps options.every options.report)
-            source (I.left input.old) result self.old self.new (input.new ≡ input.old) }
+            ForInput (I.left input.old) (λ bytes. DoesIn O.taken
+            (run options.slides file options.steps options.every options.report)
+            source bytes result self.old self.new (input.new ≡ input.old)
+            (tally count.old) (tally count.new) (tally trace.old) (tally trace.new)) }
         ensures notes { ReportedIn R.taken options.report result self.old self.new }
         ensures tuned { ¬ IsFresh self.new.machine.now →
             TunedTo options.every (tally count.new) (tally trace.new) }
-        ensures asked { (file : List ℕ) (source : Sources) →
-            Means source.file (spelt (program_of program)) →
-            RunAskedOf (in_file file) source (I.left input.old) self.new.machine.now
-            (tally count.old) (tally count.new) (tally trace.old) (tally trace.new) }
         ensures yeses { SayYesOf self.new.machine.now
             (tally count.old) (tally count.new) (tally trace.old) (tally trace.new) }
         ensures caused { CausedIn O.faults R.faults result (I.faults input.old) (I.faults input.new)

@@ -1,8 +1,8 @@
 //! What a command works with beside its words and files (docs/architecture.md).
 
-ghost use Rattle.std.specs.Prelude.{◌≡◌, ◌≤◌, ◌<◌, [], length, take, IfOk, IfSome, OnErr};
-ghost use Rattle.rg_io.specs.Content.{Rose, Gives};
-ghost use Rattle.rg_commands.specs.Inner.Nothing.{nothing_left, no_faults};
+ghost use Rattle.std.specs.Prelude.{◌≡◌, ◌≤◌, ◌<◌, [], length, take, IfOk, IfSome, OnErr, OnOk};
+ghost use Rattle.rg_io.specs.Content.{Rose, Gives, gave, failed};
+ghost use Rattle.rg_commands.specs.Inner.Nothing.{gives_nothing, nothing_left, no_faults};
 
 use rg_io::{Failed, Source};
 use rg_run::Machine;
@@ -26,6 +26,8 @@ impl Source for NoInput {
 
     ghost left = { nothing_left };
 
+    ghost replies = { gives_nothing };
+
     fn read(&mut self, buf: &mut [u8]) -> Result<usize, Failed>
         requires { 0 < length buf.old }
         ensures within { IfOk result (λ n. n ≤ length buf.new) }
@@ -33,6 +35,10 @@ impl Source for NoInput {
             Gives (nothing_left self.old) (nothing_left self.new) (take n buf.new)) }
         ensures end { IfOk result (λ n. n ≡ 0 →
             IfSome (nothing_left self.old) (λ bytes. bytes ≡ [])) }
+        ensures replied { IfOk result (λ n.
+            gives_nothing self.old (gave (take n buf.new)) self.new) }
+        ensures quiet { OnOk result (no_faults self.new ≡ no_faults self.old) }
+        ensures refused { OnErr result (gives_nothing self.old failed self.new) }
         ensures failed { OnErr result (Rose (no_faults self.old) (no_faults self.new)) }
         ensures kept { OnErr result (nothing_left self.new ≡ nothing_left self.old) }
         ensures buffer_kept { OnErr result (buf.new ≡ buf.old) }

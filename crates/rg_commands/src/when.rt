@@ -6,7 +6,7 @@ ghost use Rattle.rg_io.specs.Files.{BegunAre};
 ghost use Rattle.rg_run.specs.Asked.{SameTuned, both};
 ghost use Rattle.rg_words.specs.Commands.{when, with_plan};
 ghost use Rattle.rg_sources.specs.Opens.{Opens};
-ghost use Rattle.rg_commands.specs.Setting.{IsUnused, IsLent, SettlesCommandIn, CausedIn};
+ghost use Rattle.rg_commands.specs.Setting.{IsUnused, IsLent, DoesCommandIn, CausedIn};
 
 use crate::setting::Setting;
 use rg_io::{Files, Sink, Source};
@@ -29,8 +29,9 @@ impl<O: Sink, R: Sink> Setting<'_, O, R> {
         trace: &mut dyn Pacer,
     ) -> Status
         requires { IsUnused self.old }
-        ensures settles { SettlesCommandIn O.taken (F.told files.old) (when file.now plan.now keep)
-            (I.left input.old) result self.old self.new (input.new ≡ input.old) }
+        ensures settles { DoesCommandIn O.taken (F.told files.old) (when file.now plan.now keep)
+            (I.left input.old) result self.old self.new (input.new ≡ input.old)
+            (tally count.old) (tally count.new) (tally trace.old) (tally trace.new) }
         ensures opened { BegunAre (Opens (F.told files.old) (with_plan file.now plan.now keep))
             (F.begun files.old) (F.begun files.new) }
         ensures notes { R.taken self.new.notes.now ≡ R.taken self.old.notes.now }

@@ -1,5 +1,5 @@
 -- A turn of the loop of a run: a step more, or the end of the run. All that is told of it is one fact on bytes of the input.
-use Rattle.std.proofs.Common.{◌≡◌, ◌∙◌, ℕ, ◌+◌, ◌-◌, ◌^◌, ◌≤◌, ◌<◌, ◌⊎◌, Bool, true, false, inl, inr, List, Option, Ok, Err, refl, sym, subst, arith}
+use Rattle.std.proofs.Common.{◌≡◌, ◌∙◌, ℕ, ◌+◌, ◌-◌, ◌^◌, ◌≤◌, ◌<◌, ◌⊎◌, Bool, true, false, true≢false, inl, inr, List, Option, Ok, Err, refl, sym, subst, arith}
 use Rattle.rg_base.specs.declared.outcome.Ended.{Ended}
 use Rattle.rg_base.specs.declared.outcome.Ended.TheVariants as ended
 use Rattle.rg_base.specs.declared.outcome.Outcome.{Outcome}
@@ -89,6 +89,7 @@ module _ {t : Tables} {code : Code} {k : ℕ} {a b : Pending} {la lb : Option (L
         (λ x y h. record {
           ran = inr (ran x y h.between);
           asked = h.asked;
+          unasked = λ off. absurd (true≢false (sym (ran x y h.between).begun ∙ off));
           since = since-yes (program_of t) x (kept started st k) h.since;
           told = h.told;
           states = λ begun. runs-through started (standing st now) (standing st now) e x y y h.states refl (leaves y);
@@ -202,6 +203,7 @@ module _ {t : Tables} {code : Code} {k : ℕ} {old new : Stepping} {a b c : Pend
         (λ x y z h one. record {
           ran = inr (ran x y z h.between one.shows);
           asked = asked h one;
+          unasked = λ off. absurd (true≢false (sym (ran x y z h.between one.shows).begun ∙ off));
           since = since-yes (program_of t) x (kept started new (behind k r)) (since room h one);
           told = told room h one;
           states = λ begun. through x y z h.states one;

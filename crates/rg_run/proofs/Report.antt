@@ -1,6 +1,6 @@
 -- What the notes have taken of a run, one collection after another.
-use Rattle.std.proofs.Common.{◌≡◌, ℕ, zero, suc, ◌+◌, ◌≤◌, ◌⊎◌, inl, inr, Bool, true, false, List, [], ◌∷◌, ◌++◌, length, take, drop}
-use Rattle.std.proofs.Common.{Err, Option, Some, None, slice_get, refl, sym, ap, subst, ◌∙◌, arith}
+use Rattle.std.proofs.Common.{◌≡◌, ◌≢◌, ℕ, zero, suc, ◌+◌, ◌≤◌, ◌⊎◌, inl, inr, Bool, true, false, List, [], ◌∷◌, ◌++◌, length, take, drop}
+use Rattle.std.proofs.Common.{Ok, Err, Option, Some, None, slice_get, refl, sym, ap, subst, ◌∙◌, arith}
 use Rattle.std.proofs.Common.{append-nil, append_assoc, length-append, true≢false}
 use Rattle.std.proofs.Math.Seq.{take-append_seam}
 use Rattle.std.proofs.lemmas.List.{take_all, take-append-drop}
@@ -253,6 +253,17 @@ input-failed A old new outcome.Done gives h = absurd (done-input gives.1 h)
 input-failed A old new (outcome.Trap kind line) gives h = absurd (other-end gives.1 h refl)
 input-failed A old new outcome.InputFault gives h = refl
 input-failed A old new outcome.Memory gives h = absurd (other-end gives.1 h refl)
+
+-- a step that met a fault of the input ends the run at it
+pub failed-input : (A : Type 0) (old new : Option (List ℕ)) {e : Ended} (r : Outcome) → Gives {A = A} r (Err e) old new →
+    r ≡ outcome.InputFault → e ≡ ended.InputFault
+failed-input A old new {e} r gives h =
+    let fault : Gives {A = A} outcome.InputFault (Err e) old new = subst (λ (x : Outcome). Gives {A = A} x (Err e) old new) h gives in fault.1
+
+-- a run that goes on met none
+pub goes_faultless : (A : Type 0) (x : A) (old new : Option (List ℕ)) (r : Outcome) → Gives {A = A} r (Ok x) old new → r ≢ outcome.InputFault
+goes_faultless A x old new r gives h =
+    let fault : Gives {A = A} outcome.InputFault (Ok x) old new = subst (λ (x' : Outcome). Gives {A = A} x' (Ok x) old new) h gives in fault.1
 
 -- the faults of the output or those of the notes, since earlier counts of both
 pub rose-since : {a b x c d y : ℕ} → a ≤ b → c ≤ d → Rose b x ⊎ Rose d y → Rose a x ⊎ Rose c y

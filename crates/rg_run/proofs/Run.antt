@@ -85,6 +85,7 @@ not-begun t code n b p q k a left old still first begins same quiet =
     (λ bytes. record {
       ran = inl (record { answer_is = refl; fresh = there; untouched = refl; unread = quiet });
       asked = asked-none (program_of t) bytes k first begins.steps;
+      unasked = λ off. refl;
       since = since-yes (program_of t) bytes _ (since-none (program_of t) bytes k q begins.steps (ap (λ (s : Stepping). s.steps) there.stepper)
           (ap (λ (s : Stepping). s.since) there.stepper) (ap (λ (s : Stepping). s.events) there.stepper));
       told = tells-none (program_of t) bytes k q.events begins.steps (ap (λ (s : Stepping). s.events) there.stepper);

@@ -1,5 +1,5 @@
 -- What a call of the machine has answered, written and left (docs/language.md, "Steps").
-use Rattle.std.specs.Prelude.{◌≡◌, ◌⊎◌, ◌≤◌, ℕ, true, List, Option}
+use Rattle.std.specs.Prelude.{◌≡◌, ◌≢◌, ◌⊎◌, ◌≤◌, ℕ, true, List, Option}
 use Rattle.rg_base.specs.declared.outcome.Ended.{Ended}
 use Rattle.rg_base.specs.declared.outcome.Ended.TheVariants as ended
 use Rattle.rg_io.specs.Content.{Rose}
@@ -25,10 +25,11 @@ pub record Ran (t : Tables) (n : ℕ) (old new : Option (List ℕ)) (m : Kept) (
   pub sound : IsSound (program_of t) before n
   pub unread : NeverAsks (program_of t) before n → still
 
--- A run names a fault of the input only where its count rose, and one of the output only where its own count or that of the notes rose; and no
+-- A run names a fault of the input where its count rose, and only there, and one of the output only where its own count or that of the notes rose; and no
 -- count falls.
 pub record Caused (result : Ended) (source_old source_new out_old out_new notes_old notes_new : ℕ) : Type 0 where
   pub input_fault : result ≡ ended.InputFault → Rose source_old source_new
+  pub source_quiet : result ≢ ended.InputFault → source_new ≡ source_old
   pub output_fault : result ≡ ended.OutputFault → Rose out_old out_new ⊎ Rose notes_old notes_new
   pub source_never_falls : source_old ≤ source_new
   pub sink_never_falls : out_old ≤ out_new

@@ -1,5 +1,5 @@
 -- All that a call of the machine is told of a run, of the same bytes of the input (docs/language.md, "Steps").
-use Rattle.std.specs.Prelude.{◌≡◌, ℕ, true, List, Option}
+use Rattle.std.specs.Prelude.{◌≡◌, ℕ, true, false, List, Option}
 use Rattle.rg_base.specs.declared.outcome.Ended.{Ended}
 use Rattle.rg_tree.specs.Rows.Tables.{Tables}
 use Rattle.rg_tree.specs.Rows.RowTrees.{program_of}
@@ -18,6 +18,8 @@ pub record WholeRun (t : Tables) (code : Code) (n : ℕ) (old new : Option (List
   pub ran : RunsOn t n old new m result still before after
   -- how often each pacer was asked over its whole steps
   pub asked : AskedOver (program_of t) before m.steps first last
+  -- where no run has begun, they are as they were
+  pub unasked : m.begun ≡ false → last ≡ first
   -- how often each was asked since its last yes
   pub since : SinceYes (program_of t) before m
   -- the collections that it told

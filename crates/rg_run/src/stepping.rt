@@ -1,6 +1,6 @@
 //! A step of the stack machine, as the loop of a run takes it (docs/language.md, "Steps").
 
-ghost use Rattle.std.specs.Prelude.{◌≡◌, ◌≤◌, ◌++◌, List};
+ghost use Rattle.std.specs.Prelude.{◌≡◌, ◌≢◌, ◌≤◌, ◌++◌, List};
 ghost use Rattle.rg_io.specs.Content.{Rose};
 ghost use Rattle.rg_input.specs.Numbers.{Follows, OnInput};
 ghost use Rattle.rg_machine.specs.Parts.{machine_in};
@@ -45,6 +45,7 @@ pub(crate) fn step<S: Source>(
     ensures follows { Follows input.new (S.left source.new) }
     ensures fault { result ≡ Outcome.InputFault →
         Rose (S.faults source.old) (S.faults source.new) }
+    ensures no_fault { result ≢ Outcome.InputFault → S.faults source.new ≡ S.faults source.old }
     ensures never_falls { S.faults source.old ≤ S.faults source.new }
 {
     stepper.step(code, input, source, count, trace)

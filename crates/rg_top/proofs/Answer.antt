@@ -3,24 +3,31 @@ use Rattle.std.proofs.Common.{◌≡◌, ◌≢◌, ℕ, suc, ◌<◌, ◌≤◌
 use Rattle.std.proofs.Common.{[], ◌∙◌, ap, subst, arith}
 use Rattle.std.specs.Bool.{OnTrue, OnFalse}
 use Rattle.std.proofs.lemmas.List.{length-replicate, append-nil}
+use Rattle.rg_base.specs.declared.fault.Fault.{Fault}
 use Rattle.rg_io.specs.Content.{Rose}
 use Rattle.rg_io.specs.Files.{Told, BegunAre}
 use Rattle.rg_io.proofs.Content.{Rose-since}
-use Rattle.rg_run.specs.Machine.{Kept, numbers_of}
+use Rattle.rg_run.specs.Asked.{Asks}
+use Rattle.rg_run.specs.Machine.{Kept, IsFresh, numbers_of}
 use Rattle.rg_words.specs.declared.status.Status.{Status}
 use Rattle.rg_words.specs.declared.status.Status.TheVariants as status
 use Rattle.rg_words.specs.Commands.{Command, command, origin_of, runs_on, may_run, reads_input, may_read, opens_file, may_open}
-use Rattle.rg_words.specs.Commands.{may_schedule, steps_of}
+use Rattle.rg_words.specs.Commands.{may_schedule, is_scheduled, every_of, keep_of}
+use Rattle.rg_words.specs.Commands.{run, plain, fmt, check, code, pack, bulk, exec, when}
 use Rattle.rg_words.specs.Statuses.{is_answer, is_refusal, is_cut_off, is_from_outside, IsBadSchedule}
-use Rattle.rg_words.specs.Answers.{ForInput}
-use Rattle.rg_sources.specs.Sources.{Sources, HasSource}
+use Rattle.rg_words.specs.Answers.{HasInput, ForInput}
+use Rattle.rg_rules.specs.Acceptance.{first_fault}
+use Rattle.rg_sources.specs.Sources.{Sources, HasSource, Meaning, too_long, faulty, spelt, planned}
 use Rattle.rg_sources.specs.Opens.{Opens}
 use Rattle.rg_commands.specs.Expected.{ExpectsStatus}
 use Rattle.rg_commands.specs.CutOff.{Untouched, CutOffAt, CutAtInput}
-use Rattle.rg_commands.specs.Settled.{RanSchedule, Settles, Unread, source_fault, memory, SettlesCommand, Tunes, Chooses}
-use Rattle.rg_commands.proofs.Meaning.{expects-one, refusal-any}
-use Rattle.rg_top.specs.Each.{StandsForEach}
-use Rattle.rg_top.specs.Headline.{ForSource, Exactly, ExactlyWhere, Answers, IsExpected, MayTell, UnlessSchedule, OpensBy}
+use Rattle.rg_commands.specs.Asked.{Unasked, input_for, tuned_to}
+use Rattle.rg_commands.specs.Settled.{RanSchedule, Settles, SettlesSchedule, Unread, source_fault, memory, SettlesCommand, Does, DoesCommand, RunAsked}
+use Rattle.rg_commands.specs.Settled.{Tunes, Chooses}
+use Rattle.rg_commands.proofs.Asked.{asked-behind}
+use Rattle.rg_commands.proofs.Meaning.{expects-one, plan-needed, refusal-any}
+use Rattle.rg_top.specs.Headline.{ForSource, Exactly, ExactlyWhere, Answers, IsExpected, MayTell, UnlessSchedule, OpensBy, Chosen, FaultsRose}
+use Rattle.rg_top.specs.Headline.{IfAccepted, IsMachineOf, Leaves}
 use Rattle.rg_commands.specs.Laws.{OneAnswer}
 use Rattle.rg_top.specs.Inner.Told.{Becomes}
 use Rattle.rg_top.proofs.Settled.{answers-of, cut-of, status-of, schedule-of, schedule-cut, schedule-input, schedule-status, schedule-refused}
@@ -33,7 +40,7 @@ told-status P given answer h o m (inr (inl e)) = subst P (sym e) o
 told-status P given answer h o m (inr (inr e)) = subst P (sym e) m
 
 -- a fact that holds under a test leads to another
-on-true : (P Q : Type 0) (b : Bool) → OnTrue b P → (P → Q) → OnTrue b Q
+pub on-true : (P Q : Type 0) (b : Bool) → OnTrue b P → (P → Q) → OnTrue b Q
 on-true P Q true h f = f h
 on-true P Q false h f = tt
 
@@ -57,29 +64,69 @@ module _ (told : Option Told) (left : Option (List ℕ)) (words : List (List ℕ
       ForSource told left words P
   for-source P source has h = (c, source, asked, has, h)
 
-  file-answers : SettlesCommand told c left s old new m still →
-      OnTrue (is_answer s) (ForSource told left words (λ d source input. Answers d source input s old new m still))
-  file-answers (inl h) = on-true _ _ (is_answer s) (answers-of c h.0 left s old new m still h.2) (for-source _ h.0 h.1)
-  file-answers (inr (inl u)) = unread-answer told c s _ u.0
-  file-answers (inr (inr r)) = on-true _ _ (is_answer s) (schedule-of told c left s old new m still r) (for-source _ r.source r.has)
+  -- a fact on the bytes that are meant, with another one on them
+  with-asked : (P Q : Command → Sources → List ℕ → Type 0) (input : List ℕ) → HasInput left input → (source : Sources) → HasSource told (origin_of c) source →
+      ForInput (Some input) (P c source) → Q c source input → ForSource told left words (λ d source bytes. P d source bytes × Q d source bytes)
+  with-asked P Q input is source has h q = (c, source, asked, has, (input, is, (subst (P c source) (sym h.1) h.2, q)))
 
-  file-cut : SettlesCommand told c left s old new m still →
-      Untouched m old new still ⊎ ForSource told left words (λ d source input. CutOffAt d source input m old new still)
-  file-cut (inl h) = elim (cut-of c h.0 left s old new m still h.2) [ inl u ↦ inl u | inr k ↦ inr (for-source _ h.0 h.1 k) ]
-  file-cut (inr (inl u)) = inl u.1
-  file-cut (inr (inr r)) = inr (for-source _ r.source r.has (schedule-cut told c left s old new m still r))
+  module _ (input : List ℕ) (is : HasInput left input) (before behind : Asks) where
+    -- how the pacers were asked, where they were tuned first
+    abbrev AskedOn : Command → Sources → List ℕ → Type 0
+    AskedOn d source bytes =
+        is_scheduled d ≡ false → RunAsked (origin_of d) source (input_for (origin_of d) bytes) s m (tuned_to (every_of d) before) behind
 
-  file-input : s ≡ status.InputFault → SettlesCommand told c left s old new m still →
-      ForSource told left words (λ d source input. CutAtInput d source input m old new)
-  file-input e (inl h) = let P : Status → Type 0 = λ x. Settles c h.0 left x old new m still in for-source _ h.0 h.1 (subst P e h.2)
-  file-input e (inr (inr r)) =
-      let P : Status → Type 0 = λ x. RanSchedule told c left x old new m in
-      let q = subst P e r in for-source _ q.source q.has (schedule-input told c left old new m q)
-  file-input e (inr (inl u)) = absurd (go s u.0 e)
-    where
-      go : (x : Status) → Unread told c x → x ≢ status.InputFault
-      go x source_fault e = cc
-      go x memory e = cc
+    asked-on : (source : Sources) → Does c source input s old new m still (tuned_to (every_of c) before) behind → AskedOn c source input
+    asked-on source h off = h.asked
+
+    unscheduled : (r : RanSchedule told c (Some input) s old new m) → AskedOn c r.source input
+    unscheduled r off =
+        let lie : true ≡ false = sym (plan-needed c r.source r.tree r.plan r.images r.means) ∙ off in absurd (cc)
+
+    file-answers : DoesCommand told c input s old new m still (tuned_to (every_of c) before) behind →
+        OnTrue (is_answer s) (ForSource told left words (λ d source bytes. Answers d source bytes s old new m still × AskedOn d source bytes))
+    file-answers (inl h) =
+        on-true _ _ (is_answer s) (answers-of c h.0 (Some input) s old new m still h.2.settles)
+        (λ a. with-asked (λ d source bytes. Answers d source bytes s old new m still) AskedOn input is h.0 h.1 a (asked-on h.0 h.2))
+    file-answers (inr (inl u)) = unread-answer told c s _ u.0.0
+    file-answers (inr (inr r)) =
+        on-true _ _ (is_answer s) (schedule-of told c (Some input) s old new m still r)
+        (λ a. with-asked (λ d source bytes. Answers d source bytes s old new m still) AskedOn input is r.source r.has a (unscheduled r))
+
+    file-cut : DoesCommand told c input s old new m still (tuned_to (every_of c) before) behind →
+        Untouched m old new still
+        ⊎ ForSource told left words (λ d source bytes. CutOffAt d source bytes m old new still × AskedOn d source bytes)
+    file-cut (inl h) = elim (cut-of c h.0 (Some input) s old new m still h.2.settles) [
+      | inl u ↦ inl u
+      | inr k ↦ inr (with-asked (λ d source bytes. CutOffAt d source bytes m old new still) AskedOn input is h.0 h.1 k (asked-on h.0 h.2))
+    ]
+    file-cut (inr (inl u)) = inl u.0.1
+    file-cut (inr (inr r)) =
+        inr (with-asked (λ d source bytes. CutOffAt d source bytes m old new still) AskedOn input is r.source r.has
+        (schedule-cut told c (Some input) s old new m still r) (unscheduled r))
+
+    file-input : s ≡ status.InputFault → DoesCommand told c input s old new m still (tuned_to (every_of c) before) behind →
+        ForSource told left words (λ d source bytes. CutAtInput d source bytes m old new × AskedOn d source bytes)
+    file-input e (inl h) =
+        let P : Status → Type 0 = λ x. Settles c h.0 (Some input) x old new m still in
+        with-asked (λ d source bytes. CutAtInput d source bytes m old new) AskedOn input is h.0 h.1 (subst P e h.2.settles) (asked-on h.0 h.2)
+    file-input e (inr (inr r)) =
+        let P : Status → Type 0 = λ x. SettlesSchedule r.tree r.plan r.images (keep_of c) (Some input) x old new in
+        with-asked (λ d source bytes. CutAtInput d source bytes m old new) AskedOn input is r.source r.has
+        (schedule-input told c (Some input) old new m (record {
+          source = r.source;
+          has = r.has;
+          tree = r.tree;
+          plan = r.plan;
+          images = r.images;
+          means = r.means;
+          settles = subst P e r.settles;
+          fresh = r.fresh;
+        })) (unscheduled r)
+    file-input e (inr (inl u)) = absurd (go s u.0.0 e)
+      where
+        go : (x : Status) → Unread told c x → x ≢ status.InputFault
+        go x source_fault e = cc
+        go x memory e = cc
 
   -- what is expected, where nothing was cut off
   file-status : SettlesCommand told c left s old new m still →
@@ -188,43 +235,110 @@ answer-chooses words c m e h d again =
     let P : Command → Type 0 = λ x. Chooses x m in
     subst P (sym same) h
 
--- What the top call answers behind the layers under it: the words' command, what was answered to its file, and that this was told, or an output
--- fault or want of memory.
+-- What the top call answers behind the layers under it: the words' command, what was answered to its file on bytes that the input has, and that this
+-- was told, or an output fault or want of memory.
 pub record Answered (told : Option Told) (left : Option (List ℕ)) (words : List (List ℕ)) (given answer : Status) (old new : Option (List ℕ))
-    (m : Kept) (still : Type 0) : Type 0 where
+    (m : Kept) (still : Type 0) (before behind : Asks) : Type 0 where
   pub asked : Command
   pub command_is : command words ≡ Some asked
-  pub settles : SettlesCommand told asked left given old new m still
+  pub input : List ℕ
+  pub input_is : HasInput left input
+  pub does : DoesCommand told asked input given old new m still (tuned_to (every_of asked) before) behind
   pub told_is : Becomes given answer
 
 -- what was answered, with the output and the machine by other names
-pub settles-moved : (told : Option Told) (c : Command) (left : Option (List ℕ)) (s : Status) (old new behind : Option (List ℕ)) (m n : Kept)
-    (still : Type 0) → new ≡ behind → m ≡ n → SettlesCommand told c left s old new m still → SettlesCommand told c left s old behind n still
-settles-moved told c left s old new behind m n still out_is machine_is h =
-    let P : Option (List ℕ) → Type 0 = λ q. SettlesCommand told c left s old q m still in
-    let Q : Kept → Type 0 = λ q. SettlesCommand told c left s old behind q still in
+pub does-moved : (told : Option Told) (c : Command) (input : List ℕ) (s : Status) (old new behind : Option (List ℕ)) (m n : Kept)
+    (still : Type 0) (first last : Asks) → new ≡ behind → m ≡ n → DoesCommand told c input s old new m still first last →
+    DoesCommand told c input s old behind n still first last
+does-moved told c input s old new behind m n still first last out_is machine_is h =
+    let P : Option (List ℕ) → Type 0 = λ q. DoesCommand told c input s old q m still first last in
+    let Q : Kept → Type 0 = λ q. DoesCommand told c input s old behind q still first last in
     subst Q machine_is (subst P out_is h)
 
+-- what was answered, whatever was asked
+does-settles : (told : Option Told) (c : Command) (input : List ℕ) (s : Status) (old new : Option (List ℕ)) (m : Kept) (still : Type 0)
+    (first last : Asks) → DoesCommand told c input s old new m still first last → SettlesCommand told c (Some input) s old new m still
+does-settles told c input s old new m still first last (inl h) = inl (h.0, h.1, h.2.settles)
+does-settles told c input s old new m still first last (inr (inl u)) = inr (inl u.0)
+does-settles told c input s old new m still first last (inr (inr r)) = inr (inr r)
+
+-- what holds of these bytes holds of bytes that the input has
+from-here : (told : Option Told) (left : Option (List ℕ)) (words : List (List ℕ)) (input : List ℕ) (P : Command → Sources → List ℕ → Type 0) →
+    HasInput left input → ForSource told (Some input) words P → ForSource told left words P
+from-here told left words input P is (c, source, asked, has, (bytes, same, p)) =
+    (c, source, asked, has, (input, is, subst (P c source) (sym same) p))
+
+-- what is told is the status that was given, or one of a call that was cut off
+becomes-cut : (given answer : Status) → Becomes given answer → (answer ≡ given) ⊎ (is_cut_off answer ≡ true)
+becomes-cut given answer (inl e) = inl e
+becomes-cut given answer (inr (inl e)) = inr (subst (λ (s : Status). is_cut_off s ≡ true) (sym e) refl)
+becomes-cut given answer (inr (inr e)) = inr (subst (λ (s : Status). is_cut_off s ≡ true) (sym e) refl)
+
 module _ {told : Option Told} {left : Option (List ℕ)} {words : List (List ℕ)} {given answer : Status} {old new : Option (List ℕ)} {m : Kept}
-    {still : Type 0} (a : Answered told left words given answer old new m still) where
-  pub answer-answered : OnTrue (is_answer answer) (ForSource told left words (λ c source input. Answers c source input answer old new m still))
+    {still : Type 0} {before behind : Asks} (a : Answered told left words given answer old new m still before behind) where
+  abbrev Asked : Status → Command → Sources → List ℕ → Type 0
+  Asked s d source bytes =
+      is_scheduled d ≡ false → RunAsked (origin_of d) source (input_for (origin_of d) bytes) s m (tuned_to (every_of d) before) behind
+
+  settled : SettlesCommand told a.asked (Some a.input) given old new m still
+  settled = does-settles told a.asked a.input given old new m still _ behind a.does
+
+  status-here : ForSource told left words (λ c source input. ExpectsStatus c source input given) ⊎ (is_from_outside given ≡ true)
+  status-here = elim (file-status told (Some a.input) words a.asked given old new m still a.command_is settled) [
+    | inl h ↦ inl (from-here told left words a.input _ a.input_is h)
+    | inr o ↦ inr o
+  ]
+
+  pub answer-answered : OnTrue (is_answer answer) (ForSource told left words (λ c source input.
+      Answers c source input answer old new m still × Asked answer c source input))
   answer-answered =
-      told-status (λ s. OnTrue (is_answer s) (ForSource told left words (λ c source input. Answers c source input s old new m still))) given answer
-      (file-answers told left words a.asked given old new m still a.command_is a.settles) tt tt a.told_is
+      told-status (λ s. OnTrue (is_answer s) (ForSource told left words (λ c source input.
+      Answers c source input s old new m still × Asked s c source input))) given answer
+      (file-answers told left words a.asked given old new m still a.command_is a.input a.input_is before behind a.does) tt tt a.told_is
+
+  -- of what was told
+  asked-told : (c : Command) (source : Sources) (input : List ℕ) → Asked given c source input → Asked answer c source input
+  asked-told c source input h off =
+      asked-behind (origin_of c) source (input_for (origin_of c) input) m given answer _ behind (becomes-cut given answer a.told_is) (h off)
 
   pub answer-cut : OnTrue (is_cut_off answer)
-      (Untouched m old new still ⊎ ForSource told left words (λ c source input. CutOffAt c source input m old new still))
-  answer-cut = on-fact (is_cut_off answer) _ (file-cut told left words a.asked given old new m still a.command_is a.settles)
+      (Untouched m old new still ⊎ ForSource told left words (λ c source input.
+      CutOffAt c source input m old new still × Asked answer c source input))
+  answer-cut = on-fact (is_cut_off answer) _ (elim
+      (file-cut told left words a.asked given old new m still a.command_is a.input a.input_is before behind a.does) [
+        | inl u ↦ inl u
+        | inr (c, source, asked, has, (input, is, p)) ↦ inr (c, source, asked, has, (input, is, (p.0, asked-told c source input p.1)))
+      ])
 
-  pub answer-input : answer ≡ status.InputFault → ForSource told left words (λ c source input. CutAtInput c source input m old new)
+  pub answer-input : answer ≡ status.InputFault → ForSource told left words (λ c source input.
+      CutAtInput c source input m old new × Asked answer c source input)
   answer-input e =
-      file-input told left words a.asked given old new m still a.command_is (given-is given answer a.told_is (λ o. cc) (λ o. cc) ∙ e) a.settles
+      let (c, source, asked, has, (input, is, p)) =
+      file-input told left words a.asked given old new m still a.command_is a.input a.input_is before behind
+      (given-is given answer a.told_is (λ o. cc) (λ o. cc) ∙ e) a.does in
+      (c, source, asked, has, (input, is, (p.0, asked-told c source input p.1)))
+
+  -- where no run has begun, no pacer was asked
+  pub answer-unasked : may_schedule (command words) ≡ false → IsFresh m → Unasked m before behind
+  answer-unasked off fresh = by a.does
+    where
+      of-tuned : Unasked m (tuned_to (every_of a.asked) before) behind → Unasked m before behind
+      of-tuned h = record { fresh = h.fresh; count = h.count; trace = h.trace }
+
+      by : DoesCommand told a.asked a.input given old new m still (tuned_to (every_of a.asked) before) behind → Unasked m before behind
+      by (inl h) = elim h.2.asked [
+        | inl none ↦ of-tuned none
+        | inr r ↦ (let lie : true ≡ false = sym r.stands.shows.begun ∙ fresh.begun in absurd (cc))
+      ]
+      by (inr (inl u)) = of-tuned u.1
+      by (inr (inr r)) =
+          let lie : true ≡ false =
+          sym (plan-needed a.asked r.source r.tree r.plan r.images r.means) ∙ sym (ap may_schedule a.command_is) ∙ off in absurd (cc)
 
   -- each answer to a source comes exactly where it is expected
   pub answer-exactly : OneAnswer → (s : Status) → is_answer s ≡ true → ExactlyWhere told left words answer s
   answer-exactly law s i =
-      told-status (λ x. ExactlyWhere told left words x s) given answer
-      (exactly-where law told left words given s i (file-status told left words a.asked given old new m still a.command_is a.settles))
+      told-status (λ x. ExactlyWhere told left words x s) given answer (exactly-where law told left words given s i status-here)
       (outside-exactly law told left words status.OutputFault s i left refl) (outside-exactly law told left words status.Memory s i left refl)
       a.told_is
 
@@ -234,7 +348,7 @@ module _ {told : Option Told} {left : Option (List ℕ)} {words : List (List ℕ
       ExactlyWhere told (Some bytes) words answer s
   answer-refused law s i r n bytes =
       told-status (λ x. ExactlyWhere told (Some bytes) words x s) given answer
-      (exactly-refused law told left words given s i r n bytes (file-status told left words a.asked given old new m still a.command_is a.settles))
+      (exactly-refused law told left words given s i r n bytes status-here)
       (outside-exactly law told left words status.OutputFault s i (Some bytes) refl)
       (outside-exactly law told left words status.Memory s i (Some bytes) refl) a.told_is
 
@@ -250,8 +364,7 @@ module _ {told : Option Told} {left : Option (List ℕ)} {words : List (List ℕ
       by : Becomes given answer → Expected answer ⊎ (answer ≡ status.Memory)
       by (inl e) =
           let P : Status → Type 0 = λ s. Expected s ⊎ (is_from_outside s ≡ true) in
-          expected-unless (Expected answer) answer
-          (subst P (sym e) (file-status told left words a.asked given old new m still a.command_is a.settles)) (λ i. nf (x i)) (λ i. ni (y i))
+          expected-unless (Expected answer) answer (subst P (sym e) status-here) (λ i. nf (x i)) (λ i. ni (y i))
           (λ i. elim (z i) [ inl o ↦ nout o | inr n ↦ nn n ])
       by (inr (inl e)) = elim (z e) [ inl o ↦ absurd (nout o) | inr n ↦ absurd (nn n) ]
       by (inr (inr e)) = inr e
@@ -282,11 +395,11 @@ untouched-of told left words c status.Long old new m still e (inr (inl u)) = (u.
 untouched-of told left words c status.Long old new m still e (inr (inr r)) = absurd r.settles
 
 pub answer-untouched : {told : Option Told} {left : Option (List ℕ)} {words : List (List ℕ)} {given answer : Status} {old new : Option (List ℕ)}
-    {m : Kept} {still : Type 0} → Answered told left words given answer old new m still →
+    {m : Kept} {still : Type 0} {before behind : Asks} → Answered told left words given answer old new m still before behind →
     OnTrue (is_refusal answer) (Untouched m old new (UnlessSchedule (command words) answer still))
-answer-untouched {told = told} {left = left} {words = words} {given = given} {answer = answer} {old = old} {new = new} {m = m} {still = still} a =
+answer-untouched {told = told} {words = words} {given = given} {answer = answer} {old = old} {new = new} {m = m} {still = still} a =
     told-status (λ s. OnTrue (is_refusal s) (Untouched m old new (UnlessSchedule (command words) s still))) given answer
-    (untouched-of told left words a.asked given old new m still a.command_is a.settles) tt tt a.told_is
+    (untouched-of told (Some a.input) words a.asked given old new m still a.command_is (settled a)) tt tt a.told_is
 
 -- a command is answered no usage
 usage-unread : (told : Option Told) (c : Command) (s : Status) → Unread told c s → s ≢ status.Usage
@@ -300,11 +413,13 @@ no-usage told left c old new m still (inr (inl u)) = usage-unread told c status.
 no-usage told left c old new m still (inr (inr r)) = r.settles
 
 pub answer-usage : {told : Option Told} {left : Option (List ℕ)} {words : List (List ℕ)} {given answer : Status} {old new : Option (List ℕ)}
-    {m : Kept} {still : Type 0} → Answered told left words given answer old new m still → Exactly answer status.Usage (command words ≡ None)
-answer-usage {told = told} {left = left} {words = words} {given = given} {answer = answer} {old = old} {new = new} {m = m} {still = still} a = (
+    {m : Kept} {still : Type 0} {before behind : Asks} → Answered told left words given answer old new m still before behind →
+    Exactly answer status.Usage (command words ≡ None)
+answer-usage {told = told} {words = words} {given = given} {answer = answer} {old = old} {new = new} {m = m} {still = still} a = (
   λ e.
-      let P : Status → Type 0 = λ s. SettlesCommand told a.asked left s old new m still in
-      absurd (no-usage told left a.asked old new m still (subst P (given-is given answer a.told_is (λ o. cc) (λ o. cc) ∙ e) a.settles)),
+      let P : Status → Type 0 = λ s. SettlesCommand told a.asked (Some a.input) s old new m still in
+      absurd (no-usage told (Some a.input) a.asked old new m still
+      (subst P (given-is given answer a.told_is (λ o. cc) (λ o. cc) ∙ e) (settled a))),
   λ none. let lie : None ≡ Some a.asked = sym none ∙ a.command_is in absurd (cc),
 )
 
@@ -332,13 +447,14 @@ may-tell told left words F I status.Long n u f i (inr o) = cc
 
 -- the status that was given to be told is one, and want of memory
 pub answer-may : {told : Option Told} {left : Option (List ℕ)} {words : List (List ℕ)} {given answer : Status} {old new : Option (List ℕ)}
-    {m : Kept} {still : Type 0} → Answered told left words given answer old new m still → (F I : Type 0) → (given ≡ status.SourceFault → F) →
+    {m : Kept} {still : Type 0} {before behind : Asks} → Answered told left words given answer old new m still before behind → (F I : Type 0) →
+    (given ≡ status.SourceFault → F) →
     (given ≡ status.InputFault → I) → (s : Status) → s ≢ status.OutputFault → (s ≡ given) ⊎ (s ≡ status.Memory) → MayTell told left words F I s
 answer-may {told = told} {left = left} {words = words} {given = given} {old = old} {new = new} {m = m} {still = still} a F I f i s n (inl e) =
-    let P : Status → Type 0 = λ x. SettlesCommand told a.asked left x old new m still in
+    let P : Status → Type 0 = λ x. SettlesCommand told a.asked (Some a.input) x old new m still in
     subst (MayTell told left words F I) (sym e)
-    (may-tell told left words F I given (λ o. n (e ∙ o)) (λ u. no-usage told left a.asked old new m still (subst P u a.settles)) f i
-    (file-status told left words a.asked given old new m still a.command_is a.settles))
+    (may-tell told left words F I given (λ o. n (e ∙ o)) (λ u. no-usage told (Some a.input) a.asked old new m still (subst P u (settled a))) f i
+    (status-here a))
 answer-may {told = told} {left = left} {words = words} a F I f i s n (inr e) = subst (MayTell told left words F I) (sym e) tt
 
 -- words that are no command are answered a usage, or an output fault, and nothing else
@@ -382,17 +498,54 @@ pub usage-opened : (told : Option Told) (words : List (List ℕ)) (old : List (L
 usage-opened told words old e = rw e ([], refl, sym (append-nil old))
 
 -- what was answered to a source was expected of it
-expects-of : (told : Option Told) (left : Option (List ℕ)) (words : List (List ℕ)) (s : Status) (old new : Option (List ℕ)) (m : Kept) (still : Type 0) →
-    ForSource told left words (λ c source input.
-    Answers c source input s old new m still × StandsForEach c source input (steps_of c) m) → IsExpected told left words s
-expects-of told left words s old new m still (c, source, asked, has, (input, is, (a, each))) =
+expects-of : (told : Option Told) (left : Option (List ℕ)) (words : List (List ℕ)) (s : Status) (old new : Option (List ℕ)) (m : Kept) (still : Type 0)
+    (Q : Command → Sources → List ℕ → Type 0) → ForSource told left words (λ c source input.
+    Answers c source input s old new m still × Q c source input) → IsExpected told left words s
+expects-of told left words s old new m still Q (c, source, asked, has, (input, is, (a, each))) =
     (c, source, asked, has, (input, is, (numbers_of m, a.text, (a.meaning, a.means, a.expects))))
 
 pub answers-expected : (told : Option Told) (left : Option (List ℕ)) (words : List (List ℕ)) (s : Status) (old new : Option (List ℕ)) (m : Kept)
-    (still : Type 0) → OnTrue (is_answer s) (ForSource told left words (λ c source input.
-    Answers c source input s old new m still × StandsForEach c source input (steps_of c) m)) →
+    (still : Type 0) (Q : Command → Sources → List ℕ → Type 0) → OnTrue (is_answer s) (ForSource told left words (λ c source input.
+    Answers c source input s old new m still × Q c source input)) →
     OnTrue (is_answer s) (IsExpected told left words s)
-answers-expected told left words s old new m still h = on-true _ _ (is_answer s) h (expects-of told left words s old new m still)
+answers-expected told left words s old new m still Q h = on-true _ _ (is_answer s) h (expects-of told left words s old new m still Q)
+
+-- the one of two facts that the checker's answer chooses, weakened
+if-any : (o : Option Fault) (A B C D : Type 0) → (A → C) → (B → D) → IfAccepted o A B → IfAccepted o C D
+if-any None A B C D f g h = f h
+if-any (Some x) A B C D f g h = g h
+
+-- what was left beside a text is left, whatever is said of the input
+leaves-any : (c : Command) (input : List ℕ) (k : Meaning) (m : Kept) (still : Type 0) → Leaves c input k m still → Leaves c input k m (Unit {0})
+leaves-any c input too_long m still h = (h.0, tt)
+leaves-any c input (faulty f) m still h = (h.0, tt)
+leaves-any c input (planned t p images) m still h = h
+leaves-any (run slides file n every report) input (spelt t) m still h = if-any (first_fault t) _ _ _ _ (λ x. (x.0, λ none. tt)) (λ x. (x.0, tt)) h
+leaves-any (plain file n) input (spelt t) m still h = (h.0, if-any (first_fault t) _ _ _ _ (λ x. (x.0, λ none. tt)) (λ x. tt) h.1)
+leaves-any (fmt file) input (spelt t) m still h = h
+leaves-any (check file) input (spelt t) m still h = h
+leaves-any (code file) input (spelt t) m still h = h
+leaves-any (pack file) input (spelt t) m still h = h
+leaves-any (bulk size) input (spelt t) m still h = h
+leaves-any (exec file n every report) input (spelt t) m still h = if-any (first_fault t) _ _ _ _ (λ x. (x.0, λ none. tt)) (λ x. (x.0, tt)) h
+leaves-any (when file plan keep) input (spelt t) m still h = h
+
+-- so a machine is that of a call that has answered
+machine-of : (words : List (List ℕ)) (s : Status) (old new : Option (List ℕ)) (m : Kept) (still : Type 0) (Q : Command → Sources → List ℕ → Type 0) →
+    ForSource None None words (λ c source input. Answers c source input s old new m still × Q c source input) → IsMachineOf words s m
+machine-of words s old new m still Q (c, source, asked, has, (input, is, (a, each))) =
+    (c, source, asked, has, (input, is, (a.meaning, a.means, (a.text, a.expects), leaves-any c input a.meaning m still a.leaves)))
+
+pub answers-machine : (words : List (List ℕ)) (s : Status) (old new : Option (List ℕ)) (m : Kept) (still : Type 0)
+    (Q : Command → Sources → List ℕ → Type 0) → OnTrue (is_answer s) (ForSource None None words (λ c source input.
+    Answers c source input s old new m still × Q c source input)) → OnTrue (is_answer s) (IsMachineOf words s m)
+answers-machine words s old new m still Q h = on-true _ _ (is_answer s) h (machine-of words s old new m still Q)
+
+-- a call that has told want of memory has answered nothing
+pub memory-machine : (words : List (List ℕ)) (s : Status) (m : Kept) → (s ≡ status.Memory) ⊎ (s ≡ status.OutputFault) →
+    OnTrue (is_answer s) (IsMachineOf words s m)
+memory-machine words s m (inl e) = subst (λ (x : Status). OnTrue (is_answer x) (IsMachineOf words x m)) (sym e) tt
+memory-machine words s m (inr e) = subst (λ (x : Status). OnTrue (is_answer x) (IsMachineOf words x m)) (sym e) tt
 
 -- a status that may be told of sources and inputs that failed may be told of any
 pub may-any : (told : Option Told) (left : Option (List ℕ)) (words : List (List ℕ)) (F I : Type 0) (s : Status) → s ≢ status.OutputFault →
@@ -408,3 +561,32 @@ may-any told left words F I status.InputFault n h = tt
 may-any told left words F I status.OutputFault n h = h
 may-any told left words F I status.Memory n h = tt
 may-any told left words F I status.Long n h = h
+
+-- words that are no command choose nothing
+pub usage-chosen : (words : List (List ℕ)) (m : Kept) (a : Asks) → command words ≡ None → Chosen (command words) m a a
+usage-chosen words m a none = record {
+  tuned = λ c asked. (let lie : None ≡ Some c = sym none ∙ asked in absurd (cc));
+  untuned = on-false (may_run (command words)) (λ off. (refl, refl));
+  slides = λ c asked. (let lie : None ≡ Some c = sym none ∙ asked in absurd (cc));
+}
+
+-- and are answered a fault of the notes alone
+pub usage-faults : (answer : Status) (files input out a b : ℕ) → (answer ≡ status.Usage) ⊎ (answer ≡ status.OutputFault) →
+    (answer ≡ status.OutputFault → (status.Usage ≡ status.OutputFault) ⊎ Rose a b) → a ≤ b →
+    FaultsRose answer files files input input out out a b
+usage-faults answer files input out a b told failed never_falls = record {
+  source_fault = λ i. (elim told [
+    | inl u ↦ (let lie : status.Usage ≡ status.SourceFault = sym u ∙ i in absurd (cc))
+    | inr o ↦ (let lie : status.OutputFault ≡ status.SourceFault = sym o ∙ i in absurd (cc))
+  ]);
+  input_fault = λ i. (elim told [
+    | inl u ↦ (let lie : status.Usage ≡ status.InputFault = sym u ∙ i in absurd (cc))
+    | inr o ↦ (let lie : status.OutputFault ≡ status.InputFault = sym o ∙ i in absurd (cc))
+  ]);
+  input_quiet = λ i o m. refl;
+  output_fault = λ i. (elim (failed i) [ inl lie ↦ absurd (cc) | inr r ↦ inr r ]);
+  files_never_fall = omega arith;
+  input_never_falls = omega arith;
+  out_never_falls = omega arith;
+  notes_never_fall = never_falls;
+}

@@ -16,22 +16,24 @@ use Rattle.rg_module.specs.Laws.{SpellsOneModule}
 use Rattle.rg_raised.specs.Raises.{Raises}
 use Rattle.rg_verify.specs.Told.{RaisedAlike}
 use Rattle.rg_rules.specs.Outside.Asks.{asks}
-use Rattle.rg_run.specs.Asked.{raised}
+use Rattle.rg_run.specs.Asked.{Asks, raised}
 use Rattle.rg_run.specs.Machine.{Kept, IsFresh}
 use Rattle.rg_run.specs.Sound.{Stands, NeverAsks}
 use Rattle.rg_alike.specs.Laws.{StandAlike}
 use Rattle.rg_alike.specs.Standing.{RunStands as StandsFor}
 use Rattle.rg_words.specs.declared.status.Status.{Status}
-use Rattle.rg_words.specs.Commands.{Command, run, plain, fmt, check, code, pack, bulk, exec, when, in_module, origin_of, steps_of}
+use Rattle.rg_words.specs.Commands.{Command, run, plain, fmt, check, code, pack, bulk, exec, when, in_module, origin_of, steps_of, every_of}
 use Rattle.rg_sources.specs.Sources.{Sources, Meaning, too_long, faulty, spelt, planned, MeansModule, Runs}
 use Rattle.rg_sources.proofs.Meaning.{no-program}
 use Rattle.rg_commands.specs.CutOff.{Untouched, CutOffAt, CutAtInput}
-use Rattle.rg_commands.specs.Asked.{Unasked, RunAsks, AsksOver, input_for}
+use Rattle.rg_words.specs.Commands.{is_scheduled}
+use Rattle.rg_commands.specs.Asked.{RunAsks, AsksOver, input_for, tuned_to}
+use Rattle.rg_commands.specs.Settled.{RunAsked}
 use Rattle.rg_words.specs.declared.status.Status.TheVariants as status
 use Rattle.rg_words.specs.Statuses.{is_answer, is_cut_off}
-use Rattle.rg_top.proofs.Answer.{Answered, answer-answered, answer-cut, answer-input}
+use Rattle.rg_top.proofs.Answer.{Answered, answer-answered, answer-cut, answer-input, on-true}
 use Rattle.rg_top.specs.Headline.{ForSource, IfAccepted, RunStands, Leaves, Answers}
-use Rattle.rg_top.specs.Each.{StandsForEach, AsksForEach, AsksSo}
+use Rattle.rg_top.specs.Each.{StandsForEach, AsksForEach, AsksSo, Beside, PacesFor}
 use Rattle.rg_top.specs.Laws.{EachRuns}
 
 -- programs that raise the module of the same bytes are alike
@@ -104,18 +106,6 @@ each-answer law (when file plan keep) source input s old new m still a = tt
 each-answer law (exec file n every report) source input s old new m still a =
     λ u runs. left-each law file n every report source input a.meaning m still a.means a.leaves u runs
 
-answered-each : EachRuns → (told : Option Told) (left : Option (List ℕ)) (words : List (List ℕ)) (b : Bool) (s : Status)
-    (old new : Option (List ℕ)) (m : Kept) (still : Type 0) →
-    OnTrue b (ForSource told left words (λ c source input. Answers c source input s old new m still)) →
-    OnTrue b (ForSource told left words (λ c source input.
-    Answers c source input s old new m still × StandsForEach c source input (steps_of c) m))
-answered-each law told left words false s old new m still h = tt
-answered-each law told left words true s old new m still h =
-    let P : Command → (source : Sources) (input : List ℕ) → Type 0 = λ c source input. Answers c source input s old new m still in
-    let Q : Command → (source : Sources) (input : List ℕ) → Type 0 = λ c source input.
-    Answers c source input s old new m still × StandsForEach c source input (steps_of c) m in
-    for-source-map told left words P Q (λ c source input a. (a, each-answer law c source input s old new m still a)) h
-
 -- what was cut off
 each-cut : EachRuns → (c : Command) (source : Sources) (input : List ℕ) (m : Kept) (old new : Option (List ℕ)) (still : Type 0) →
     CutOffAt c source input m old new still → StandsForEach c source input m.steps m
@@ -130,19 +120,6 @@ each-cut law (when file plan keep) source input m old new still h = tt
 each-cut law (exec file n every report) source input m old new still h =
     stands-each law (exec file n every report) source input m.steps m h.0 h.1 h.2.stands
 
-cut-each : EachRuns → (told : Option Told) (left : Option (List ℕ)) (words : List (List ℕ)) (b : Bool) (m : Kept) (old new : Option (List ℕ))
-    (still : Type 0) →
-    OnTrue b (Untouched m old new still ⊎ ForSource told left words (λ c source input. CutOffAt c source input m old new still)) →
-    OnTrue b (Untouched m old new still ⊎ ForSource told left words (λ c source input.
-    CutOffAt c source input m old new still × StandsForEach c source input m.steps m))
-cut-each law told left words false m old new still h = tt
-cut-each law told left words true m old new still (inl h) = inl h
-cut-each law told left words true m old new still (inr h) =
-    let P : Command → (source : Sources) (input : List ℕ) → Type 0 = λ c source input. CutOffAt c source input m old new still in
-    let Q : Command → (source : Sources) (input : List ℕ) → Type 0 = λ c source input.
-    CutOffAt c source input m old new still × StandsForEach c source input m.steps m in
-    inr (for-source-map told left words P Q (λ c source input a. (a, each-cut law c source input m old new still a)) h)
-
 each-input : EachRuns → (c : Command) (source : Sources) (input : List ℕ) (m : Kept) (old new : Option (List ℕ)) → CutAtInput c source input m old new →
     StandsForEach c source input m.steps m
 each-input law (run slides file n every report) source input m old new h = tt
@@ -156,54 +133,65 @@ each-input law (when file plan keep) source input m old new h = tt
 each-input law (exec file n every report) source input m old new h =
     stands-each law (exec file n every report) source input m.steps m h.0 h.1 h.2
 
-input-each : EachRuns → (told : Option Told) (left : Option (List ℕ)) (words : List (List ℕ)) (m : Kept) (old new : Option (List ℕ)) →
-    ForSource told left words (λ c source input. CutAtInput c source input m old new) →
-    ForSource told left words (λ c source input. CutAtInput c source input m old new × StandsForEach c source input m.steps m)
-input-each law told left words m old new h =
-    let P : Command → (source : Sources) (input : List ℕ) → Type 0 = λ c source input. CutAtInput c source input m old new in
-    let Q : Command → (source : Sources) (input : List ℕ) → Type 0 = λ c source input.
-    CutAtInput c source input m old new × StandsForEach c source input m.steps m in
-    for-source-map told left words P Q (λ c source input a. (a, each-input law c source input m old new a)) h
-
 -- whom it asked
-each-asks : EachRuns → (c : Command) (source : Sources) (input : List ℕ) (m : Kept) (d e t u : ℕ) →
-    RunAsks (origin_of c) source (input_for (origin_of c) input) m d e t u → AsksForEach c source input m d e t u
-each-asks law (run slides file n every report) source input m d e t u h = tt
-each-asks law (plain file n) source input m d e t u h = tt
-each-asks law (fmt file) source input m d e t u h = tt
-each-asks law (check file) source input m d e t u h = tt
-each-asks law (code file) source input m d e t u h = tt
-each-asks law (pack file) source input m d e t u h = tt
-each-asks law (bulk size) source input m d e t u h = tt
-each-asks law (when file plan keep) source input m d e t u h = tt
-each-asks law (exec file n every report) source input m d e t u h =
+each-asks : EachRuns → (c : Command) (source : Sources) (input : List ℕ) (m : Kept) (s : Status) (first last : Asks) →
+    RunAsks (origin_of c) source (input_for (origin_of c) input) m s first last → AsksForEach c source input m first last
+each-asks law (run slides file n every report) source input m s first last h = tt
+each-asks law (plain file n) source input m s first last h = tt
+each-asks law (fmt file) source input m s first last h = tt
+each-asks law (check file) source input m s first last h = tt
+each-asks law (code file) source input m s first last h = tt
+each-asks law (pack file) source input m s first last h = tt
+each-asks law (bulk size) source input m s first last h = tt
+each-asks law (when file plan keep) source input m s first last h = tt
+each-asks law (exec file n every report) source input m s first last h =
     λ p runs. let here = law.alike file source h.tables p h.runs runs in record {
       stands = here.stands input m.steps m h.stands;
-      count = here.asks input m.steps Count d e h.count;
-      trace = here.asks input m.steps Trace t u h.trace;
+      count = here.asks input m.steps Count first.count.asks last.count.asks h.count;
+      trace = here.asks input m.steps Trace first.trace.asks last.trace.asks h.trace;
     }
 
-pub asked-each : EachRuns → (told : Option Told) (left : Option (List ℕ)) (words : List (List ℕ)) (m : Kept) (d e t u : ℕ) →
-    Unasked m d e t u ⊎ ForSource told left words (λ c source input. RunAsks (origin_of c) source (input_for (origin_of c) input) m d e t u) →
-    Unasked m d e t u ⊎ ForSource told left words (λ c source input.
-    RunAsks (origin_of c) source (input_for (origin_of c) input) m d e t u × AsksForEach c source input m d e t u)
-asked-each law told left words m d e t u (inl h) = inl h
-asked-each law told left words m d e t u (inr h) =
-    let P : Command → (source : Sources) (input : List ℕ) → Type 0 = λ c source input. RunAsks (origin_of c) source (input_for (origin_of c) input) m d e t u in
-    let Q : Command → (source : Sources) (input : List ℕ) → Type 0 = λ c source input.
-    RunAsks (origin_of c) source (input_for (origin_of c) input) m d e t u × AsksForEach c source input m d e t u in
-    inr (for-source-map told left words P Q (λ c source input a. (a, each-asks law c source input m d e t u a)) h)
+module _ (law : EachRuns) (m : Kept) (s : Status) (old new : Asks) where
+  -- how the pacers were asked, of each program
+  paces-for : (c : Command) (source : Sources) (input : List ℕ) →
+      (is_scheduled c ≡ false → RunAsked (origin_of c) source (input_for (origin_of c) input) s m (tuned_to (every_of c) old) new) →
+      PacesFor c source input m s old new
+  paces-for c source input h off = elim (h off) [
+    | inl none ↦ inl (record { fresh = none.fresh; count = none.count; trace = none.trace })
+    | inr r ↦ inr (r, each-asks law c source input m s _ new r)
+  ]
 
 module _ {told : Option Told} {left : Option (List ℕ)} {words : List (List ℕ)} {given answer : Status} {old new : Option (List ℕ)} {m : Kept}
-    {still : Type 0} (law : EachRuns) (a : Answered told left words given answer old new m still) where
+    {still : Type 0} {before behind : Asks} (law : EachRuns) (a : Answered told left words given answer old new m still before behind) where
+  abbrev Asked : Command → (source : Sources) (input : List ℕ) → Type 0
+  Asked c source input =
+      is_scheduled c ≡ false → RunAsked (origin_of c) source (input_for (origin_of c) input) answer m (tuned_to (every_of c) before) behind
+
   pub each-answered : OnTrue (is_answer answer) (ForSource told left words (λ c source input.
-      Answers c source input answer old new m still × StandsForEach c source input (steps_of c) m))
-  each-answered = answered-each law told left words (is_answer answer) answer old new m still (answer-answered a)
+      Answers c source input answer old new m still × Beside c source input (steps_of c) m answer before behind))
+  each-answered = on-true _ _ (is_answer answer) (answer-answered a)
+      (for-source-map told left words (λ c source input. Answers c source input answer old new m still × Asked c source input) _
+      (λ c source input h. (
+        h.0,
+        (each-answer law c source input answer old new m still h.0, paces-for law m answer before behind c source input h.1),
+      )))
 
   pub each-cut_off : OnTrue (is_cut_off answer) (Untouched m old new still ⊎ ForSource told left words (λ c source input.
-      CutOffAt c source input m old new still × StandsForEach c source input m.steps m))
-  each-cut_off = cut-each law told left words (is_cut_off answer) m old new still (answer-cut a)
+      CutOffAt c source input m old new still × Beside c source input m.steps m answer before behind))
+  each-cut_off = on-true _ _ (is_cut_off answer) (answer-cut a) (λ h. elim h [
+    | inl u ↦ inl u
+    | inr k ↦ inr (for-source-map told left words (λ c source input. CutOffAt c source input m old new still × Asked c source input) _
+        (λ c source input h. (
+          h.0,
+          (each-cut law c source input m old new still h.0, paces-for law m answer before behind c source input h.1),
+        )) k)
+  ])
 
   pub each-cut_at_input : answer ≡ status.InputFault → ForSource told left words (λ c source input.
-      CutAtInput c source input m old new × StandsForEach c source input m.steps m)
-  each-cut_at_input e = input-each law told left words m old new (answer-input a e)
+      CutAtInput c source input m old new × Beside c source input m.steps m answer before behind)
+  each-cut_at_input e =
+      for-source-map told left words (λ c source input. CutAtInput c source input m old new × Asked c source input) _
+      (λ c source input h. (
+        h.0,
+        (each-input law c source input m old new h.0, paces-for law m answer before behind c source input h.1),
+      )) (answer-input a e)

@@ -1,7 +1,6 @@
 -- The lemmas that the answers of rg_top use; none is for crates above.
 mod Settled
 mod NoteLines
-mod Asked
 mod Answer
 mod Each
 mod Packed

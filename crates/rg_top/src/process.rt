@@ -8,7 +8,8 @@ ghost use Rattle.std.specs.String.{string_bytes};
 ghost use Rattle.std.specs.Vec.Iter.{into_iter_items};
 ghost use Rattle.rg_run.specs.Machine.{Kept};
 ghost use Rattle.rg_words.specs.Commands.{command, texts, may_report};
-ghost use Rattle.rg_top.specs.Headline.{Exactly, IsExpected, MayTell, TookNotes, steps_asked};
+ghost use Rattle.rg_top.specs.Headline.{Exactly, IsExpected, IsMachineOf, MayTell, TookNotes};
+ghost use Rattle.rg_top.specs.Headline.{steps_asked};
 ghost use Rattle.rg_top.specs.Inner.Words.{status_without};
 ghost use Rattle.rg_words.specs.Statuses.{number_of, is_answer};
 
@@ -87,8 +88,8 @@ fn tell_no_words<R: Sink>(notes: &mut R, why: NoWords) -> Status
 fn paced<R: Sink>(rt: &HostRuntime, words: &[&str], notes: &mut R) -> Status
     ensures usage { Exactly result Status.Usage (command (texts words.now) ≡ None) }
     ensures expected { OnTrue (is_answer result) (IsExpected None None (texts words.now) result) }
-    ensures notes { (m : Kept) × TookNotes
-        (MayTell None None (texts words.now) (Unit {0}) (Unit {0}))
+    ensures notes { (m : Kept) × OnTrue (is_answer result) (IsMachineOf (texts words.now) result m)
+        × TookNotes (MayTell None None (texts words.now) (Unit {0}) (Unit {0}))
         (may_report (command (texts words.now))) (steps_asked (command (texts words.now))) m
         result (R.taken notes.old) (R.taken notes.new) }
 {

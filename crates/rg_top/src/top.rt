@@ -1,29 +1,26 @@
 //! The top call: from words, files and input to the output, the notes and the status
 //! (docs/promises.md).
 
-ghost use Rattle.std.specs.Prelude.{◌≡◌, ◌≢◌, ◌≤◌, ◌⊎◌, ℕ, List, true, false, Some};
-ghost use Rattle.std.specs.Prelude.{None};
+ghost use Rattle.std.specs.Prelude.{◌≡◌, ◌≢◌, ◌⊎◌, ℕ, List, true, false, Some, None};
 ghost use Rattle.std.specs.Bool.{OnTrue, OnFalse};
-ghost use Rattle.rg_base.specs.declared.fault.Fault.{Fault};
-ghost use Rattle.rg_base.specs.declared.outcome.Trap.{Trap};
 ghost use Rattle.rg_tree.specs.Rows.Tables.{Tables};
 ghost use Rattle.rg_io.specs.Content.{Rose};
 ghost use Rattle.rg_io.specs.Files.{BegunAre};
 ghost use Rattle.rg_machine.specs.Owned.{IsOwned};
-ghost use Rattle.rg_run.specs.Asked.{SameTuned, both};
+ghost use Rattle.rg_run.specs.Asked.{both};
 ghost use Rattle.rg_run.specs.Sound.{Stands};
 ghost use Rattle.rg_run.specs.Machine.{IsFresh};
-ghost use Rattle.rg_words.specs.Commands.{Command, command, texts, origin_of, steps_of, may_open};
-ghost use Rattle.rg_words.specs.Commands.{may_read, every_of, runs_on, is_slide, reports};
-ghost use Rattle.rg_words.specs.Commands.{may_run, may_report, may_schedule};
+ghost use Rattle.rg_words.specs.Commands.{command, texts, steps_of, may_open};
+ghost use Rattle.rg_words.specs.Commands.{may_read, reports, may_report, may_schedule};
 ghost use Rattle.rg_words.specs.Requests.{command_for};
-ghost use Rattle.rg_words.specs.Statuses.{is_answer, is_refusal, is_cut_off, IsBadSchedule};
+ghost use Rattle.rg_words.specs.Statuses.{is_answer, is_refusal, is_cut_off};
 ghost use Rattle.rg_commands.specs.Expected.{ExpectsStatus};
 ghost use Rattle.rg_commands.specs.CutOff.{Untouched, CutOffAt, CutAtInput};
 ghost use Rattle.rg_top.specs.Headline.{ForSource, Exactly, ExactlyWhere, Answers, TookNotes};
 ghost use Rattle.rg_top.specs.Headline.{ToldFault, MayTell, steps_asked, UnlessSchedule, OpensBy};
-ghost use Rattle.rg_top.specs.Each.{StandsForEach, AsksForEach};
-ghost use Rattle.rg_commands.specs.Asked.{Unasked, RunAsks, SayYes, input_for};
+ghost use Rattle.rg_top.specs.Headline.{IsEarly, Chosen, FaultsRose};
+ghost use Rattle.rg_top.specs.Each.{Beside};
+ghost use Rattle.rg_commands.specs.Asked.{Unasked, SayYes};
 
 use crate::laws::{each_runs, packed_runs_as};
 use crate::notes::{tell, tell_behind};
@@ -92,7 +89,8 @@ pub fn reggio<F: Files, I: Source, O: Sink, R: Sink>(
         (ForSource (F.told files.old) (I.left input.old) (texts words.now)
         (λ c source bytes.
         Answers c source bytes result (O.taken out.old) (O.taken out.new) machine.new
-        (input.new ≡ input.old) × StandsForEach c source bytes (steps_of c) machine.new)) }
+        (input.new ≡ input.old) × Beside c source bytes (steps_of c) machine.new result
+        (both (tally count.old) (tally trace.old)) (both (tally count.new) (tally trace.new)))) }
     ensures untouched { OnTrue (is_refusal result)
         (Untouched machine.new (O.taken out.old) (O.taken out.new)
         (UnlessSchedule (command (texts words.now)) result (input.new ≡ input.old))) }
@@ -101,75 +99,50 @@ pub fn reggio<F: Files, I: Source, O: Sink, R: Sink>(
         ⊎ ForSource (F.told files.old) (I.left input.old) (texts words.now)
         (λ c source bytes.
         CutOffAt c source bytes machine.new (O.taken out.old) (O.taken out.new)
-        (input.new ≡ input.old) × StandsForEach c source bytes machine.new.steps machine.new)) }
+        (input.new ≡ input.old) × Beside c source bytes machine.new.steps machine.new result
+        (both (tally count.old) (tally trace.old)) (both (tally count.new) (tally trace.new)))) }
     ensures cut_at_input { result ≡ Status.InputFault →
         ForSource (F.told files.old) (I.left input.old) (texts words.now) (λ c source bytes.
         CutAtInput c source bytes machine.new (O.taken out.old) (O.taken out.new)
-        × StandsForEach c source bytes machine.new.steps machine.new) }
+        × Beside c source bytes machine.new.steps machine.new result
+        (both (tally count.old) (tally trace.old)) (both (tally count.new) (tally trace.new))) }
     ensures notes { TookNotes (MayTell (F.told files.old) (I.left input.old) (texts words.now)
         (Rose (F.faults files.old) (F.faults files.new))
         (Rose (I.faults input.old) (I.faults input.new)))
         (may_report (command (texts words.now))) (steps_asked (command (texts words.now)))
         machine.new result (R.taken notes.old) (R.taken notes.new) }
-    ensures tuned { (c : Command) → command (texts words.now) ≡ Some c → runs_on c ≡ true →
-        ¬ IsFresh machine.new →
-        ((tally count.new).tuned ≡ every_of c) × ((tally trace.new).tuned ≡ every_of c) }
-    ensures untuned { OnFalse (may_run (command (texts words.now)))
-        (SameTuned (both (tally count.old) (tally trace.old))
-        (both (tally count.new) (tally trace.new))) }
-    ensures slides { (c : Command) → command (texts words.now) ≡ Some c →
-        ¬ IsFresh machine.new → machine.new.stepper.slides ≡ is_slide c }
-    ensures asked { may_schedule (command (texts words.now)) ≡ false → Unasked machine.new
-        (tally count.old).asks (tally count.new).asks (tally trace.old).asks (tally trace.new).asks
-        ⊎ ForSource (F.told files.old) (I.left input.old) (texts words.now)
-        (λ c source bytes. RunAsks (origin_of c) source (input_for (origin_of c) bytes) machine.new
-        (tally count.old).asks (tally count.new).asks
-        (tally trace.old).asks (tally trace.new).asks
-        × AsksForEach c source bytes machine.new
-        (tally count.old).asks (tally count.new).asks
-        (tally trace.old).asks (tally trace.new).asks) }
+    ensures output_fault_told { result ≡ Status.OutputFault →
+        ¬ Rose (R.faults notes.old) (R.faults notes.new) →
+        ToldFault (may_report (command (texts words.now))) machine.new.stepper.events
+        (R.taken notes.old) (R.taken notes.new) }
+
+    // What it does with the machine and the pacers.
+    ensures chosen { Chosen (command (texts words.now)) machine.new
+        (both (tally count.old) (tally trace.old)) (both (tally count.new) (tally trace.new)) }
+    ensures unasked { may_schedule (command (texts words.now)) ≡ false → IsFresh machine.new →
+        Unasked machine.new
+        (both (tally count.old) (tally trace.old)) (both (tally count.new) (tally trace.new)) }
     ensures yeses { may_schedule (command (texts words.now)) ≡ false → SayYes machine.new
         (tally count.old).yeses (tally count.new).yeses
         (tally trace.old).yeses (tally trace.new).yeses }
     ensures owned { (t : Tables) (bytes : List ℕ) (n : ℕ) → Stands t bytes n machine.new →
         IsOwned machine.new.stepper.parts }
-    ensures output_fault_told { result ≡ Status.OutputFault →
-        ¬ Rose (R.faults notes.old) (R.faults notes.new) →
-        ToldFault (may_report (command (texts words.now))) machine.new.stepper.events
-        (R.taken notes.old) (R.taken notes.new) }
+
+    // What it opens and reads.
     ensures opened { BegunAre (OpensBy (F.told files.old) (command (texts words.now)))
         (F.begun files.old) (F.begun files.new) }
-    ensures files_unread { OnFalse (may_open (command (texts words.now)))
-        (files.new ≡ files.old) }
-    ensures reads_nothing { OnFalse (may_read (command (texts words.now)))
-        (input.new ≡ input.old) }
+    ensures unread { OnFalse (may_open (command (texts words.now))) (files.new ≡ files.old)
+        × OnFalse (may_read (command (texts words.now))) (input.new ≡ input.old) }
 
     // From which cause each status comes.
-    ensures done { ExactlyWhere (F.told files.old) (I.left input.old) (texts words.now)
-        result Status.Done }
-    ensures refused { (f : Fault) (bytes : List ℕ) →
-        (may_schedule (command (texts words.now)) ≡ true → ¬ IsBadSchedule (Status.Refused f)) →
-        ExactlyWhere (F.told files.old) (Some bytes) (texts words.now) result (Status.Refused f) }
-    ensures refused_here { (f : Fault) →
-        ExactlyWhere (F.told files.old) (I.left input.old) (texts words.now)
-        result (Status.Refused f) }
+    ensures expected { (s : Status) → is_answer s ≡ true →
+        ExactlyWhere (F.told files.old) (I.left input.old) (texts words.now) result s }
+    ensures whatever_input { (s : Status) (bytes : List ℕ) → IsEarly (command (texts words.now)) s →
+        ExactlyWhere (F.told files.old) (Some bytes) (texts words.now) result s }
     ensures usage { Exactly result Status.Usage (command (texts words.now) ≡ None) }
-    ensures trap { (kind : Trap) (line : ℕ) →
-        ExactlyWhere (F.told files.old) (I.left input.old) (texts words.now)
-        result (Status.Trap kind line) }
-    ensures spent { ExactlyWhere (F.told files.old) (I.left input.old) (texts words.now)
-        result Status.Spent }
-    ensures away { (n : ℕ) → ExactlyWhere (F.told files.old) (I.left input.old) (texts words.now)
-        result (Status.Away n) }
-    ensures source_fault { result ≡ Status.SourceFault →
-        Rose (F.faults files.old) (F.faults files.new) }
-    ensures input_fault { result ≡ Status.InputFault →
-        Rose (I.faults input.old) (I.faults input.new) }
-    ensures output_fault { result ≡ Status.OutputFault →
-        Rose (O.faults out.old) (O.faults out.new)
-        ⊎ Rose (R.faults notes.old) (R.faults notes.new) }
-    ensures long { (bytes : List ℕ) →
-        ExactlyWhere (F.told files.old) (Some bytes) (texts words.now) result Status.Long }
+    ensures faults { FaultsRose result (F.faults files.old) (F.faults files.new)
+        (I.faults input.old) (I.faults input.new) (O.faults out.old) (O.faults out.new)
+        (R.faults notes.old) (R.faults notes.new) }
 
     // A command is answered, unless a count of faults rose or no memory was found.
     ensures complete { command (texts words.now) ≢ None →
@@ -179,10 +152,6 @@ pub fn reggio<F: Files, I: Source, O: Sink, R: Sink>(
         ¬ Rose (R.faults notes.old) (R.faults notes.new) →
         ForSource (F.told files.old) (I.left input.old) (texts words.now)
         (λ c source bytes. ExpectsStatus c source bytes result) ⊎ (result ≡ Status.Memory) }
-    ensures files_never_fall { F.faults files.old ≤ F.faults files.new }
-    ensures input_never_falls { I.faults input.old ≤ I.faults input.new }
-    ensures out_never_falls { O.faults out.old ≤ O.faults out.new }
-    ensures notes_never_fall { R.faults notes.old ≤ R.faults notes.new }
 {
     answers_are_one();
     each_runs();

@@ -36,10 +36,11 @@ PutLine status.OutputFault line old new = AppendsPart old new line
 PutLine status.Memory line old new = AppendsPart old new line
 PutLine status.Long line old new = ⊥
 
--- A command that gives nothing to the notes names a fault of the input only where its count rose, and one of the output only where its own count did;
--- and no count falls.
+-- A command that gives nothing to the notes names a fault of the input where its count rose, and only there, and one of the output only where its own
+-- count did; and no count falls.
 pub record CausedBeside (s : Status) (input_old input_new out_old out_new : ℕ) : Type 0 where
   pub input_fault : s ≡ status.InputFault → Rose input_old input_new
+  pub input_quiet : s ≢ status.InputFault → input_new ≡ input_old
   pub output_fault : s ≡ status.OutputFault → Rose out_old out_new
   pub input_never_falls : input_old ≤ input_new
   pub output_never_falls : out_old ≤ out_new

@@ -63,61 +63,34 @@ origin_of (when file plan keep) = with_plan file plan keep
 abbrev pub steps_of : Command → ℕ
 steps_of (run slides file steps every report) = steps
 steps_of (plain file steps) = steps
-steps_of (fmt file) = 0
-steps_of (check file) = 0
-steps_of (code file) = 0
-steps_of (pack file) = 0
 steps_of (bulk size) = MOST_STEPS
 steps_of (exec file steps every report) = steps
 steps_of (when file plan keep) = MOST_NUMBERS
+steps_of c = 0
 
 -- the number to which a command tunes the pacers: how often they are asked before they say yes, 0 for never; `bulk` has them say yes never
 abbrev pub every_of : Command → ℕ
 every_of (run slides file steps every report) = every
-every_of (plain file steps) = 0
-every_of (fmt file) = 0
-every_of (check file) = 0
-every_of (code file) = 0
-every_of (pack file) = 0
-every_of (bulk size) = 0
 every_of (exec file steps every report) = every
-every_of (when file plan keep) = 0
+every_of c = 0
 
 -- whether a command runs a program on the machine that is handed in
 abbrev pub runs_on : Command → Bool
 runs_on (run slides file steps every report) = true
-runs_on (plain file steps) = false
-runs_on (fmt file) = false
-runs_on (check file) = false
-runs_on (code file) = false
-runs_on (pack file) = false
 runs_on (bulk size) = true
 runs_on (exec file steps every report) = true
-runs_on (when file plan keep) = false
+runs_on c = false
 
 -- whether it is `slide`
 abbrev pub is_slide : Command → Bool
 is_slide (run slides file steps every report) = slides
-is_slide (plain file steps) = false
-is_slide (fmt file) = false
-is_slide (check file) = false
-is_slide (code file) = false
-is_slide (pack file) = false
-is_slide (bulk size) = false
-is_slide (exec file steps every report) = false
-is_slide (when file plan keep) = false
+is_slide c = false
 
 -- whether a command reports
 abbrev pub reports : Command → Bool
 reports (run slides file steps every report) = report
-reports (plain file steps) = false
-reports (fmt file) = false
-reports (check file) = false
-reports (code file) = false
-reports (pack file) = false
-reports (bulk size) = false
 reports (exec file steps every report) = report
-reports (when file plan keep) = false
+reports c = false
 
 -- whether what the words give does
 abbrev pub may_report : Option Command → Bool
@@ -128,13 +101,9 @@ may_report (Some c) = reports c
 abbrev pub reads_input : Command → Bool
 reads_input (run slides file steps every report) = true
 reads_input (plain file steps) = true
-reads_input (fmt file) = false
-reads_input (check file) = false
-reads_input (code file) = false
-reads_input (pack file) = false
-reads_input (bulk size) = false
 reads_input (exec file steps every report) = true
 reads_input (when file plan keep) = true
+reads_input c = false
 
 -- whether what the words give may
 abbrev pub may_read : Option Command → Bool
@@ -148,15 +117,8 @@ may_run (Some c) = runs_on c
 
 -- whether a command opens a file
 abbrev pub opens_file : Command → Bool
-opens_file (run slides file steps every report) = true
-opens_file (plain file steps) = true
-opens_file (fmt file) = true
-opens_file (check file) = true
-opens_file (code file) = true
-opens_file (pack file) = true
 opens_file (bulk size) = false
-opens_file (exec file steps every report) = true
-opens_file (when file plan keep) = true
+opens_file c = true
 
 -- whether what the words give opens one
 abbrev pub may_open : Option Command → Bool
@@ -165,27 +127,13 @@ may_open (Some c) = opens_file c
 
 -- the cown whose content is kept, where a command keeps one
 abbrev pub keep_of : Command → Option ℕ
-keep_of (run slides file steps every report) = None
-keep_of (plain file steps) = None
-keep_of (fmt file) = None
-keep_of (check file) = None
-keep_of (code file) = None
-keep_of (pack file) = None
-keep_of (bulk size) = None
-keep_of (exec file steps every report) = None
 keep_of (when file plan keep) = keep
+keep_of c = None
 
 -- whether a command reads a schedule on the input
 abbrev pub is_scheduled : Command → Bool
-is_scheduled (run slides file steps every report) = false
-is_scheduled (plain file steps) = false
-is_scheduled (fmt file) = false
-is_scheduled (check file) = false
-is_scheduled (code file) = false
-is_scheduled (pack file) = false
-is_scheduled (bulk size) = false
-is_scheduled (exec file steps every report) = false
 is_scheduled (when file plan keep) = true
+is_scheduled c = false
 
 -- whether what the words give does
 abbrev pub may_schedule : Option Command → Bool

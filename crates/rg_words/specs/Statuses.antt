@@ -56,84 +56,43 @@ status_text steps status.Long = codes "source too long" ++ 10 ∷ []
 
 -- an answer to what the source is: a run, a fault of the source, or that it is too long
 abbrev pub is_answer : Status → Bool
-is_answer status.Done = true
-is_answer (status.Refused f) = true
 is_answer status.Usage = false
-is_answer (status.Trap kind line) = true
-is_answer status.Spent = true
-is_answer (status.Away n) = true
 is_answer status.SourceFault = false
 is_answer status.InputFault = false
 is_answer status.OutputFault = false
 is_answer status.Memory = false
-is_answer status.Long = true
+is_answer s = true
 
 -- a run that came to its end: it is done, has trapped, or has made all its steps
 abbrev pub ends_run : Status → Bool
 ends_run status.Done = true
-ends_run (status.Refused f) = false
-ends_run status.Usage = false
 ends_run (status.Trap kind line) = true
 ends_run status.Spent = true
-ends_run (status.Away n) = false
-ends_run status.SourceFault = false
-ends_run status.InputFault = false
-ends_run status.OutputFault = false
-ends_run status.Memory = false
-ends_run status.Long = false
+ends_run s = false
 
 -- a refusal before any run
 abbrev pub is_refusal : Status → Bool
-is_refusal status.Done = false
 is_refusal (status.Refused f) = true
 is_refusal status.Usage = true
-is_refusal (status.Trap kind line) = false
-is_refusal status.Spent = false
-is_refusal (status.Away n) = false
 is_refusal status.SourceFault = true
-is_refusal status.InputFault = false
-is_refusal status.OutputFault = false
-is_refusal status.Memory = false
 is_refusal status.Long = true
+is_refusal s = false
 
 -- cut off by the output or the notes, or for want of memory
 abbrev pub is_cut_off : Status → Bool
-is_cut_off status.Done = false
-is_cut_off (status.Refused f) = false
-is_cut_off status.Usage = false
-is_cut_off (status.Trap kind line) = false
-is_cut_off status.Spent = false
-is_cut_off (status.Away n) = false
-is_cut_off status.SourceFault = false
-is_cut_off status.InputFault = false
 is_cut_off status.OutputFault = true
 is_cut_off status.Memory = true
-is_cut_off status.Long = false
+is_cut_off s = false
 
 -- cut off so, or because the input or the file couldn't be read
 abbrev pub is_from_outside : Status → Bool
-is_from_outside status.Done = false
-is_from_outside (status.Refused f) = false
-is_from_outside status.Usage = false
-is_from_outside (status.Trap kind line) = false
-is_from_outside status.Spent = false
-is_from_outside (status.Away n) = false
 is_from_outside status.SourceFault = true
 is_from_outside status.InputFault = true
 is_from_outside status.OutputFault = true
 is_from_outside status.Memory = true
-is_from_outside status.Long = false
+is_from_outside s = false
 
 -- a refusal of a schedule
 abbrev pub IsBadSchedule : Status → Type 0
-IsBadSchedule status.Done = ⊥
 IsBadSchedule (status.Refused f) = f.code ≡ Schedule
-IsBadSchedule status.Usage = ⊥
-IsBadSchedule (status.Trap kind line) = ⊥
-IsBadSchedule status.Spent = ⊥
-IsBadSchedule (status.Away n) = ⊥
-IsBadSchedule status.SourceFault = ⊥
-IsBadSchedule status.InputFault = ⊥
-IsBadSchedule status.OutputFault = ⊥
-IsBadSchedule status.Memory = ⊥
-IsBadSchedule status.Long = ⊥
+IsBadSchedule s = ⊥

@@ -9,12 +9,6 @@ returns-in-OfProgram-clause-settles g c = rw c.in-OfProgram.is c.answer_request.
 pub returns-in-OfModule-clause-settles : goal.returns-in-OfModule-clause-settles
 returns-in-OfModule-clause-settles g c = rw c.in-OfModule.is c.answer_module.ensures.settles
 
-pub returns-in-OfProgram-clause-asked : goal.returns-in-OfProgram-clause-asked
-returns-in-OfProgram-clause-asked g c = rw c.in-OfProgram.is (λ off. c.answer_request.ensures.asked)
-
-pub returns-in-OfModule-clause-asked : goal.returns-in-OfModule-clause-asked
-returns-in-OfModule-clause-asked g c = rw c.in-OfModule.is (λ off. c.answer_module.ensures.asked)
-
 pub returns-in-OfProgram-clause-yeses : goal.returns-in-OfProgram-clause-yeses
 returns-in-OfProgram-clause-yeses g c = λ off. c.answer_request.ensures.yeses
 
@@ -29,9 +23,6 @@ returns-in-OfModule-clause-slides g c = rw c.in-OfModule.is (λ begun. c.answer_
 
 pub returns-in-OfPlan-clause-settles : goal.returns-in-OfPlan-clause-settles
 returns-in-OfPlan-clause-settles g c = rw c.in-OfPlan.is c.answer_plan.ensures.settles
-
-pub returns-in-OfPlan-clause-asked : goal.returns-in-OfPlan-clause-asked
-returns-in-OfPlan-clause-asked g c = rw c.in-OfPlan.is (λ off. absurd (no_lie off))
 
 pub returns-in-OfPlan-clause-yeses : goal.returns-in-OfPlan-clause-yeses
 returns-in-OfPlan-clause-yeses g c = rw c.in-OfPlan.is (λ off. absurd (no_lie off))

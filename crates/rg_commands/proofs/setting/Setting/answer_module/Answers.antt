@@ -3,13 +3,16 @@ use Rattle.rg_words.specs.Commands.{exec, in_module}
 use Rattle.rg_commands.proofs.Reported.{quiet-refuses}
 use Rattle.rg_commands.proofs.Ran.{exec-settles}
 use Rattle.rg_commands.proofs.Refused.{refuses-settles, refuses-caused, settles-inside}
-use Rattle.rg_commands.proofs.Asked.{asked-command, yeses-fresh}
+use Rattle.rg_commands.proofs.Asked.{quiet-does, some-input, unasked, yeses-fresh}
 use Rattle.rg_commands.proofs.setting.Setting.answer_module.Goals as goal
 
 pub returns-in-Err-clause-settles : goal.returns-in-Err-clause-settles
 returns-in-Err-clause-settles g c =
     let o = c.args.options in
-    refuses-settles _ (exec c.args.file.now o.steps o.every o.report) c.in-Err.status _ _ _ _ c.in-Err.ensures.brings c.requires.fresh refl
+    let asked = exec c.args.file.now o.steps o.every o.report in
+    some-input _ _ (λ bytes.
+    quiet-does _ asked bytes c.in-Err.status _ _ _ _ _ _ (unasked _ _ _ c.requires.fresh)
+    (refuses-settles _ asked c.in-Err.status _ _ _ _ c.in-Err.ensures.brings c.requires.fresh refl))
 
 pub returns-in-Err-clause-caused : goal.returns-in-Err-clause-caused
 returns-in-Err-clause-caused g c = refuses-caused (g.F.Files.told c.args.files.now) (in_module c.args.file.now) c.in-Err.status _ _ _ c.in-Err.ensures.brings
@@ -22,32 +25,27 @@ returns-in-Err-clause-notes g c =
 pub returns-in-Ok-clause-settles : goal.returns-in-Ok-clause-settles
 returns-in-Ok-clause-settles g c =
     let o = c.args.options in
-    let raised = c.in-Ok.ensures.brings in inl (
-      raised.source,
-      raised.has,
-      exec-settles c.args.file.now o.steps o.every o.report raised.source _ _ _ _ _ _
-          (c.run_accepted.ensures.ran (in_module c.args.file.now) raised.source raised.runs),
+    let raised = c.in-Ok.ensures.brings in
+    let h = c.run_accepted.ensures.ran (in_module c.args.file.now) raised.source raised.runs in (
+      h.0,
+      h.1,
+      inl (
+        raised.source,
+        raised.has,
+        record { settles = exec-settles c.args.file.now o.steps o.every o.report raised.source _ _ _ _ _ _ h.2.0; asked = h.2.1 },
+      ),
     )
 
 pub returns-in-Ok-clause-source_fault : goal.returns-in-Ok-clause-source_fault
 returns-in-Ok-clause-source_fault g c =
     let o = c.args.options in
     let raised = c.in-Ok.ensures.brings in
+    let h = c.run_accepted.ensures.ran (in_module c.args.file.now) raised.source raised.runs in
     λ e. absurd (settles-inside (exec c.args.file.now o.steps o.every o.report) raised.source _ _ _ _ _ _
-    (exec-settles c.args.file.now o.steps o.every o.report raised.source _ _ _ _ _ _
-    (c.run_accepted.ensures.ran (in_module c.args.file.now) raised.source raised.runs)) e)
-
-pub returns-in-Err-clause-asked : goal.returns-in-Err-clause-asked
-returns-in-Err-clause-asked g c = inl (record { fresh = c.requires.fresh; count = refl; trace = refl })
+    (exec-settles c.args.file.now o.steps o.every o.report raised.source _ _ _ _ _ _ h.2.0) e)
 
 pub returns-in-Err-clause-yeses : goal.returns-in-Err-clause-yeses
 returns-in-Err-clause-yeses g c = yeses-fresh _ _ _ _ _ c.requires.fresh refl refl
-
-pub returns-in-Ok-clause-asked : goal.returns-in-Ok-clause-asked
-returns-in-Ok-clause-asked g c =
-    let raised = c.in-Ok.ensures.brings in
-    asked-command _ _ raised.source _ _ _ _ _ _ raised.has
-    (c.run_accepted.ensures.asked (in_module c.args.file.now) raised.source raised.runs)
 
 pub returns-in-Ok-clause-yeses : goal.returns-in-Ok-clause-yeses
 returns-in-Ok-clause-yeses g c = c.run_accepted.ensures.yeses

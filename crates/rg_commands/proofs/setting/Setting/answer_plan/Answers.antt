@@ -1,8 +1,9 @@
 use Rattle.std.proofs.Common.{refl, inr}
 use Rattle.rg_tree.specs.Rows.RowTrees.{program_of}
 use Rattle.rg_words.specs.Commands.{when, with_plan}
+use Rattle.rg_commands.proofs.Asked.{quiet-does, schedule-on, some-input, unasked}
 use Rattle.rg_commands.proofs.Planned.{is-kept}
-use Rattle.rg_commands.proofs.Refused.{refuses-settles, refuses-caused, schedule-inside}
+use Rattle.rg_commands.proofs.Refused.{caused-beside, refuses-settles, refuses-caused, schedule-inside}
 use Rattle.rg_commands.proofs.setting.Setting.answer_plan.Goals as goal
 
 pub run_planned-requires-clause-keep : goal.run_planned-requires-clause-keep
@@ -10,7 +11,10 @@ run_planned-requires-clause-keep g c = is-kept c.args.keep c.in-Ok.planned.plan 
 
 pub returns-in-Err-clause-settles : goal.returns-in-Err-clause-settles
 returns-in-Err-clause-settles g c =
-    refuses-settles _ (when c.args.file.now c.args.plan.now c.args.keep) c.in-Err.status _ _ _ _ c.in-Err.ensures.brings c.requires.fresh refl
+    let asked = when c.args.file.now c.args.plan.now c.args.keep in
+    some-input _ _ (λ bytes.
+    quiet-does _ asked bytes c.in-Err.status _ _ _ _ _ _ (unasked _ _ _ c.requires.fresh)
+    (refuses-settles _ asked c.in-Err.status _ _ _ _ c.in-Err.ensures.brings c.requires.fresh refl))
 
 pub returns-in-Err-clause-caused : goal.returns-in-Err-clause-caused
 returns-in-Err-clause-caused g c =
@@ -20,16 +24,20 @@ returns-in-Err-clause-caused g c =
 pub returns-in-Ok-clause-settles : goal.returns-in-Ok-clause-settles
 returns-in-Ok-clause-settles g c =
     let there = c.in-Ok.ensures.brings in
-    inr (inr (record {
-      source = there.source;
-      has = there.has;
-      tree = program_of c.in-Ok.planned.accepted.program;
-      plan = c.in-Ok.planned.plan;
-      images = c.in-Ok.planned.images.items;
-      means = there.means;
-      settles = c.run_planned.ensures.settles;
-      fresh = c.requires.fresh;
-    }))
+    let h = schedule-on _ _ _ _ _ c.run_planned.ensures.settles in (
+      h.0,
+      h.1,
+      inr (inr (record {
+        source = there.source;
+        has = there.has;
+        tree = program_of c.in-Ok.planned.accepted.program;
+        plan = c.in-Ok.planned.plan;
+        images = c.in-Ok.planned.images.items;
+        means = there.means;
+        settles = h.2;
+        fresh = c.requires.fresh;
+      })),
+    )
 
 pub returns-in-Ok-clause-source_fault : goal.returns-in-Ok-clause-source_fault
 returns-in-Ok-clause-source_fault g c = λ e.
@@ -41,3 +49,6 @@ returns-in-Err-clause-tuned g c = (refl, refl)
 
 pub returns-in-Ok-clause-tuned : goal.returns-in-Ok-clause-tuned
 returns-in-Ok-clause-tuned g c = c.run_planned.ensures.tuned
+
+pub returns-in-Ok-clause-caused : goal.returns-in-Ok-clause-caused
+returns-in-Ok-clause-caused g c = caused-beside _ _ _ _ _ _ c.run_planned.ensures.caused

@@ -16,7 +16,7 @@ use Rattle.rg_run.proofs.Run.{asked-none, not-begun, since-none}
 use Rattle.rg_run.proofs.None.{tells-none}
 use Rattle.rg_run.proofs.State.{opened}
 use Rattle.rg_run.proofs.Turn.{Between, Turns, begins, is-running}
-use Rattle.rg_run.proofs.Report.{few-behind, input-failed, rose-since}
+use Rattle.rg_run.proofs.Report.{few-behind, failed-input, goes_faultless, input-failed, rose-since}
 use Rattle.rg_run.proofs.Report.{reports-front, reports-none, reports-of, reports-same, reports-unbegun}
 use Rattle.rg_run.proofs.inside.Inside.run.Goals as goal
 
@@ -44,6 +44,7 @@ loop-self-init g c =
       follows = c.requires.follows;
       within = omega (arith, c.requires.fresh.steps);
       source_never_falls = omega arith;
+      source_quiet = refl;
       sink_never_falls = omega arith;
       notes_never_fall = omega arith;
       lent = (refl, refl);
@@ -98,6 +99,7 @@ loop-self-preserved g c =
       follows = step.follows;
       within = omega (arith, c.loop-self-test.true, steps.most, leap.most);
       source_never_falls = omega (arith, so_far.source_never_falls, step.never_falls);
+      source_quiet = step.no_fault (goes_faultless _ _ _ _ c.step-outcome.result given.gives) ∙ so_far.source_quiet;
       sink_never_falls = omega (arith, so_far.sink_never_falls, given.sink_never_falls);
       notes_never_fall = omega (arith, so_far.notes_never_fall, given.notes_never_fall);
       lent = (given.lent.0 ∙ so_far.lent.0, given.lent.1 ∙ so_far.lent.1);
@@ -191,6 +193,7 @@ returns-in-Err-clause-caused g c =
     let given = c.in-Err.ensures in
     record {
       input_fault = λ h. Rose-since _ _ _ so_far.source_never_falls (step.fault (input-failed _ _ _ c.step-outcome.result given.gives h));
+      source_quiet = λ other. step.no_fault (λ h. other (failed-input _ _ _ c.step-outcome.result given.gives h)) ∙ so_far.source_quiet;
       output_fault = λ h. rose-since so_far.sink_never_falls so_far.notes_never_fall (given.failed (ap Err h));
       source_never_falls = omega (arith, so_far.source_never_falls, step.never_falls);
       sink_never_falls = omega (arith, so_far.sink_never_falls, given.sink_never_falls);
@@ -202,6 +205,7 @@ returns-clause-caused g c =
     let so_far = c.loop-self.invariant in
     record {
       input_fault = λ h. cc;
+      source_quiet = λ other. so_far.source_quiet;
       output_fault = λ h. cc;
       source_never_falls = so_far.source_never_falls;
       sink_never_falls = so_far.sink_never_falls;
@@ -211,6 +215,7 @@ returns-clause-caused g c =
 pub returns-in_default-clause-caused : goal.returns-in_default-clause-caused
 returns-in_default-clause-caused g c = record {
   input_fault = λ h. cc;
+  source_quiet = λ other. refl;
   output_fault = λ h. cc;
   source_never_falls = omega arith;
   sink_never_falls = omega arith;

@@ -16,6 +16,7 @@ invariant-loop-self g l = record {
   follows : Follows l.input (g.I.Source.left l.source);
   within : l.self.steps ≤ l.n;
   source_never_falls : g.I.Source.faults l.fn.source ≤ g.I.Source.faults l.source;
+  source_quiet : g.I.Source.faults l.source ≡ g.I.Source.faults l.fn.source;
   sink_never_falls : g.O.Sink.faults l.fn.sinks.out.now ≤ g.O.Sink.faults l.sinks.out.now;
   lent : IsLent l.fn.sinks l.sinks;
   notes_never_fall : g.R.Sink.faults l.fn.sinks.notes.now ≤ g.R.Sink.faults l.sinks.notes.now;
