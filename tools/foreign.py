@@ -1,1229 +1,1125 @@
-"""Writes the forms of a loosely read tree as Reggio has them: the table from the forms of other languages to its own. What is
-written is only tried: whether it does, `reggio` says."""
+"""Writes what other languages have as Reggio has it: by the rows of tools/foreign.txt, and by what no row can say. Rules are applied
+to a form of the source (a statement, a member, a class) until none applies. What is written is only tried: whether it does,
+`reggio` says. Read by tools/reasons.py."""
+import functools
+import itertools
 import re
+import time
+from dataclasses import dataclass
 
-from loose import CAP_WORDS, CAPS, METHODS, NILS, VISIBLE, Node
-from outline import language, table
+from outline import CAPS as CAP_BYTES, language, table, text, top
 
-NUMBERS = set("Int Integer Long i8 i16 i32 i64 i128 u8 u16 u32 u64 usize isize long short byte unsigned I64 I32 I128 U8 U32 U64 USize "
-              "ISize number Number num uint int64 int32 uint64 size_t float double f32 f64 F32 F64 Float Double int".split())
-TRUTHS = set("Bool Boolean boolean bool".split())
-TEXTS = set("str String string char Char text".split())
-ROWS = set("List ArrayList LinkedList Vec VecDeque Array Seq Iterable list tuple Tuple Set HashSet Deque vector vec slice Slice".split())
-VALUES = {**dict.fromkeys(NILS, "nil"), "True": "true", "False": "false", "TRUE": "true", "FALSE": "false", "this": "self", "This": "self", "me": "self"}
+CAPS = [it.decode() for it in CAP_BYTES]
+PIECE = re.compile(r"""(?P<blank>[ \t\r\f\v]+)|(?P<line>\n)|(?P<comment>/\*.*?(?:\*/|\Z)|//[^\n]*|\#[^\n]*)|(?P<name>[A-Za-z_]\w*)
+  |(?P<number>\d(?:\w|\.(?=\d))*)
+  |(?P<string>\"\"\".*?\"\"\"|'''.*?'''|"(?:\\.|[^"\\\n])*"?|'(?:\\.|[^'\\\n])*'?|`[^`\n]*`?)
+  |(?P<sign>\.\.\.|\.\.=|\.\.<|===|!==|\*\*=|//=|->|=>|::|:=|\?\.|\?\?|\?:|&&|\|\||==|!=|<=|>=|<>|~=|\+=|-=|\*=|/=|%=|\+\+|--|<<|>>
+    |\*\*|\.\.|[^\s])""", re.X | re.S | re.A)
+SHOWN = re.compile(r"(?:System\.out\.|console\.|fmt\.|std::|env\.out\.|Console\.)?(print|println|printf|puts|echo|log|Println|Printf|"
+                   r"printLine|WriteLine|eprintln|cout|cerr)\b(!?)\s*(\(|<<)?")
+DIVISION = re.compile(r"//\s*[\w(][\w.()+*/%\[\] -]*;")
+MANAGERS = "arena count trace".split()
+CAP_WORDS = {"ref": "mut", "val": "imm", "box": "paused", "trn": "iso", "tag": "paused", "const": "paused", "readonly": "paused",
+             "unique": "iso", "shared": "imm", "own": "iso", "inout": "mut"}
+DECLARES = set("let var val const auto final local global static mut ref register volatile my lateinit embed".split())
+VISIBLE = set("public private protected static final abstract override virtual async pub export internal inline const "
+              "synchronized default readonly open sealed extern unsafe data explicit constexpr volatile partial".split())
+with open(f"{top}/tools/foreign.txt", encoding="utf-8") as rows, open(f"{top}/tools/reasons.txt", encoding="utf-8") as sentences:
+    ROWS_READ, SENTENCES = rows.read(), dict(re.findall(r"(?m)^([\w-]+)  (.*)$", sentences.read()))
+SETS = {name: words.replace(" ", "|") for name, words in re.findall(r"(?m)^([A-Z_]{4,}) (.*)$", ROWS_READ)}
+METHODS, CLASSES, DECLARES, VISIBLE, NUMBERS, TRUTHS, TEXTS, ROWS, NO_TYPE, MAKERS, KEYWORDS, NILS = (set(it.split("|")) for it in SETS.values())
+WORDS = {**dict.fromkeys(NILS, "nil"), "True": "true", "TRUE": "true",
+         "False": "false", "FALSE": "false", **dict.fromkeys("this This me".split(), "self"), "mod": "%", "div": "/"}
+SIGNS = {"&&": "and", "||": "or", "===": "==", "!==": "!=", "<>": "!=", "~=": "!=", "!": "not", "//": "/"}
+TOLD = {"nil": "`{0}` is `nil` here.", "self": "`{0}` is `self` here.", "and": "For `&&` and `||` there are `and` and `or`.",
+        "or": "For `&&` and `||` there are `and` and `or`.", "not": "For `!` there is `not`.",
+        "/": "`//` begins a comment; `/` divides whole numbers."}
+LONGEST = 1 << 13    # bytes of a form that is written
+FARTHEST = 200       # tokens of a part of a pattern
+SECONDS = 1.0        # in which a form is written
 START = {"int": "0", "bool": "false"}
-LEVELS = {"or": 1, "and": 2, "+": 5, "-": 5, "*": 6, "/": 6, "%": 6}
-LENGTHS = set("len length size count Length Count len_ sizeof".split())
-PLAIN = set("unwrap clone copy borrow borrow_mut as_ref as_mut get_mut expect to_owned into deref apply unwrap_or_default".split())
+ENDS_HERE = set("else elif elseif elsif giving catch except finally ; , ) .".split())
+GOES_ON = set("and or is in as instanceof".split())
+JOINED = (".", "call", "new", *CAPS)
+CLOSED = {"(": ")", "[": "]", "{": "}"}
 ABOUT = {word: said for words, said in table("Words of other languages", "diagnostics.md")[1:] for word in re.findall(r"`(\w+)`", words)}
-TEXT = "There is no text and there are no characters: numbers, truth values and references are all values."
-FUNCTION = "There are no functions as values: a method of a class is called, by `call object.method(..)`."
-NO_ROW = "There are no generics: an array has a class of its own, as `class {0} [{1}];` in front of the other classes; a reference to one is `mut {0}`, and `new {0} [3]` makes it. It keeps its size: what grows is a list of objects, each with a field to the next one."
+NO_OPERAND = set(language().words) - {"self", "true", "false", "nil", "size", "read"}
+LENGTHS = r"len|length|size|count|Length|Count|sizeof"
+
+def tell(name, *parts):
+    """A sentence of tools/reasons.txt."""
+    return re.sub(r"<(\d)>", lambda m: str(parts[int(m[1])]), SENTENCES[name])
+
+
+def wrapped(some):
+    """An expression in parentheses where it is an operand of a sum or a product."""
+    return some if re.fullmatch(r"[\w.]+(\[[\w.]+\])?", some) else f"({some})"
 
 
 class Cannot(Exception):
-    """What has no form here, and where it stands."""
-
-    def __init__(self, place, why):
-        super().__init__(why)
-        self.place, self.why = place, why
+    """What has no form here."""
 
 
-def joined(some):
-    return " ".join(some)
+# ---- Tokens, and forms by their braces
 
 
-def paused(type):
-    """The type that a window opened behind a variable sees of it."""
-    if not type or " " not in type:
-        return type
-    cap, name = type.split()
-    return f"{language().paused.get(cap.encode(), cap.encode()).decode()} {name}"
+@dataclass(slots=True)
+class Token:
+    kind: str
+    text: str
+    start: int
+    end: int
+    is_fresh: bool      # whether a line begins with it
+    indent: int
+    is_class: bool
 
 
-class Writer:
-    """Rewrites a form of a tree. Where more than one thing may be meant, `script` says which is taken."""
+@dataclass(slots=True)
+class Form:
+    """A statement, a member or a class: the numbers of its first token and of the one behind it, and its blocks: for each those of
+    its braces, and the forms in it."""
+    first: int
+    last: int
+    blocks: list
 
-    def __init__(self, reader, tree, script):
-        self.reader, self.code, self.tree, self.script, self.counts = reader, reader.code, tree, script, []
-        self.edits, self.notes, self.pre, self.post, self.env, self.used = [], [], [], [], {}, set(re.findall(r"[A-Za-z_]\w*", reader.code))
-        self.loop, self.result, self.home, self.method = None, None, None, None
-        self.classes = {it.name: it for it in reversed(tree.some) if it.kind == "class"}
 
-    # -- What is there
+def cut(code, classes=()):
+    """The tokens, and one at the end."""
+    some, place, fresh, line = [], 0, True, 0
+    while place < len(code):
+        m = PIECE.match(code, place)
+        kind, end = m.lastgroup, m.end()
+        if kind == "comment" and some and not fresh and DIVISION.match(code, place) and ends_operand(some[-1]):
+            kind, end = "sign", place + 2
+        if kind == "line":
+            fresh, line = True, end
+        elif kind not in ("blank", "comment"):
+            some.append(Token(kind, code[place:end], place, end, fresh, place - line, code[place:end] in classes))
+            fresh = False
+        place = end
+    return [*some, Token("end", "", len(code), len(code), True, -1, False)]
 
-    def choose(self, some):
-        some = list(dict.fromkeys(some))
-        if not some:
-            raise Cannot(0, "")
-        k = len(self.counts)
-        self.counts.append(len(some))
-        return some[self.script[k] if k < len(self.script) and self.script[k] < len(some) else 0]
+
+def ends_operand(it):
+    return it.kind in ("name", "number", "string") and it.text not in NO_OPERAND or it.text in (")", "]")
+
+
+def begins(toks, k, form):
+    """Whether a token at the beginning of a line begins a statement, whose predecessor has no `;`."""
+    it, before = toks[k], toks[k - 1]
+    is_head = toks[form.first].text in ("if", "while", "for", "else", "enter", "def") and not form.blocks and it.indent > toks[form.first].indent
+    return it.kind == "name" and it.text not in GOES_ON | ENDS_HERE and ends_operand(before) and not is_head
+
+
+def read_forms(toks, k, stop):
+    """The forms up to a `}`, and its number."""
+    some = []
+    while k < stop and toks[k].text != "}":
+        form, depth = Form(k, k, []), 0
+        while k < stop:
+            it = toks[k]
+            if it.text == "}" or depth == 0 and k > form.first and it.is_fresh and begins(toks, k, form):
+                break
+            k += 1
+            if it.text in ("(", "["):
+                depth += 1
+            elif it.text in (")", "]"):
+                depth = max(0, depth - 1)
+            elif it.text == "{":
+                inner, shut = read_forms(toks, k, stop)
+                form.blocks.append((k - 1, shut, inner))
+                k, after = min(shut + 1, stop), toks[min(shut + 1, len(toks) - 1)].text
+                is_more = after in ENDS_HERE or after in ("while", "until") and toks[form.first].text in ("do", "repeat")
+                if depth == 0 and not is_more:
+                    break
+            elif it.text == ";" and depth == 0:
+                break
+        form.last = k = max(k, form.first + 1)
+        some.append(form)
+    return some, k
+
+
+def read_all(toks):
+    """The forms of a whole source, of which a `}` too many is one of its own; none of a source whose blocks are too deep."""
+    some, k, stop = [], 0, len(toks) - 1
+    while k < stop:
+        try:
+            more, k = read_forms(toks, k, stop)
+        except RecursionError:
+            return []
+        some += more
+        if k < stop:
+            some.append(Form(k, k + 1, []))
+            k += 1
+    return some
+
+
+def is_class(toks, form):
+    head = [it.text for it in toks[form.first:form.blocks[0][0] if form.blocks else form.last]]
+    return any(it in CLASSES for it in head[:4]) and "(" not in head
+
+
+def every(toks, some, kind="top"):
+    """All forms with their kinds, those outside first."""
+    for form in some:
+        yield form, kind
+        inner = "member" if kind != "statement" and is_class(toks, form) else "statement"
+        for _, _, more in form.blocks:
+            yield from every(toks, more, inner)
+
+
+def around(toks, some, place, kind="top"):
+    """The forms round a place with their kinds, the innermost first."""
+    for form in some:
+        if toks[form.first].start <= place < toks[form.last - 1].end:
+            inner = "member" if kind != "statement" and is_class(toks, form) else "statement"
+            return [*(it for _, _, more in form.blocks for it in around(toks, more, place, inner)), (form, kind)]
+    return []
+
+
+# ---- Patterns
+
+
+@functools.cache
+def compiled(pattern):
+    """The parts of a pattern: (kind, name, expression, whether it may be missing)."""
+    some = []
+    for it in pattern.split():
+        missing = it.endswith("??") and len(it) > 2 and it != r"\?\?"
+        it = it[:-2] if missing else it
+        it = "|".join(SETS.get(one, one) for one in it.split("|"))
+        m = re.fullmatch(r"\$([a-z])\d?", it)
+        some.append((m[1], it[1:], None, missing) if m else ("", "", re.compile(re.escape(it) if it in "{}" else it), missing))
+    return tuple(some)
+
+
+def path_end(toks, k, more=(".",)):
+    """Behind the longest path that begins at a token, or None."""
+    if toks[k].kind != "name" or toks[k].text in language().words and toks[k].text != "self":
+        return None
+    k += 1
+    while toks[k].text in more and toks[k + 1].kind == "name":
+        k += 2
+    return k
+
+
+def closing(toks, k, stop):
+    """Behind the bracket that closes the one at a token, or None."""
+    depth = 0
+    for at in range(k, stop):
+        depth += (toks[at].text in CLOSED) - (toks[at].text in (")", "]", "}"))
+        if depth == 0:
+            return at + 1
+    return None
+
+
+def runs(toks, k, stop, commas, stops=()):
+    """The places up to which balanced tokens go from a token on, the nearest first."""
+    at, stop = k, min(stop, k + FARTHEST)
+    while at < stop:
+        it = toks[at].text
+        if it in (";", "}", ")", "]", *stops) or it == "," and not commas or it == "{" and at > k and toks[at - 1].text != "=":
+            return
+        at = closing(toks, at, stop) if it in CLOSED else at + 1
+        if at is None:
+            return
+        yield at
+
+
+COMPARES = "== != < <= > >= and or not = ? : is if else in to << .. ..= ..< return print".split()
+
+
+def ends_of(kind, toks, k, stop):
+    """Where a part of a pattern may end that begins at a token."""
+    it = toks[k]
+    if kind == "n":
+        return [k + 1] if it.kind == "name" and it.text not in language().words else []
+    if kind == "c":
+        return [k + 1] if it.is_class else []
+    if kind in ("p", "l"):
+        end = path_end(toks, k)
+        row = closing(toks, end, stop) if kind == "l" and end and toks[end].text == "[" else None
+        return [at for at in (row, *range(end or 0, k, -2)) if at and at <= stop]
+    if kind in ("e", "a"):
+        return itertools.chain([k] if kind == "a" else [], runs(toks, k, stop, kind == "a"))
+    if kind == "o":
+        return list(runs(toks, k, stop, False, COMPARES))[::-1] if it.text not in "*/%+.&|" and not (
+            it.kind == "name" and it.text in NO_OPERAND) else []
+    if kind == "u":
+        end = path_end(toks, k) or (k + 1 if it.kind == "number" else closing(toks, k, stop) if it.text == "(" else None)
+        while end and end < stop and toks[end].text == "[":
+            end = closing(toks, end, stop)
+        return [end] if end else []
+    if kind == "t":
+        return type_ends(toks, k, stop)
+    if kind == "b":
+        end = closing(toks, k, stop) if it.text == "{" else None
+        return [end] if end else []
+    if kind == "q":
+        return [k + 1] if it.kind == "string" else []
+    form = read_forms(toks, k, stop)[0][:1]      # a statement
+    return [form[0].last] if form else []
+
+
+def type_ends(toks, k, stop):
+    at = k
+    while at < stop and (toks[at].kind == "name" or toks[at].text in ("&", "*", "?", "::", ".", "<", "[")):
+        at = (closing(toks, at, stop) or stop) if toks[at].text == "[" else at + 1
+        if toks[at - 1].text == "<":
+            depth = 1
+            while at < stop and depth > 0 and (toks[at].kind == "name" or toks[at].text in ("<", ">", ">>", ",", "&", "*", "[", "]", "?", "::", ".")):
+                depth += (toks[at].text == "<") - (toks[at].text == ">") - 2 * (toks[at].text == ">>")
+                at += 1
+        yield at
+
+
+def match(parts, toks, k, stop, got=()):
+    """The parts of a pattern from a token on: (name or None, first token, the one behind), or None."""
+    if not parts:
+        return got
+    kind, name, word, missing = parts[0]
+    known = next((toks[a:b] for one, a, b in got if one and one == name), None)
+    if known:       # the same again
+        end = k + len(known)
+        return match(parts[1:], toks, end, stop, got) if [it.text for it in known] == [it.text for it in toks[k:end]] else None
+    if kind or k < stop and word.fullmatch(toks[k].text) and toks[k].kind != "string":
+        for end in ends_of(kind, toks, k, stop) if kind and k < stop else [k + 1] if not kind else []:
+            found = match(parts[1:], toks, end, stop, (*got, (name, k, end)))
+            if found is not None:
+                return found
+    return match(parts[1:], toks, k, stop, got) if missing else None
+
+
+# ---- Types
+
+
+def types_meant(words, classes, fresh):
+    """The types that are meant by some words in place of one, the likeliest first."""
+    words = [it for it in words if it not in ("&", "*", "?", "dyn", ".", "::", "^", "!", "(", ")")]
+    some = [it for it in words if it not in ("[", "]", "<", ">", ">>", ",", "mut", "ref", "const")] or words
+    if len(words) == 1 and words[0] in START or len(words) == 2 and words[0] in CAPS and words[1] in classes:
+        return [" ".join(words)]
+    named = next((it for it in some if it in classes), None)
+    if "[" in words or any(it in ROWS and it not in classes for it in some):
+        of = f"mut {named}" if named else "bool" if set(some) & TRUTHS else "int"
+        rows = sorted((it for it in classes if classes[it].element), key=lambda it: spelt(classes[it].element) != of)
+        if not rows:
+            raise Cannot(tell("no_row", fresh(f"{named}s" if named else "Row"), of))
+        return [f"mut {it}" for it in rows]
+    if named is not None:
+        caps = [CAP_WORDS.get(it, it) for it in words if it in CAPS or it in CAP_WORDS]
+        caps = [it for it in caps if it != "mut"] or caps
+        return list(dict.fromkeys(f"{cap} {named}" for cap in [*caps, *caps_of(classes[named])]))
+    if set(some) & TEXTS:
+        raise Cannot(tell("text"))
+    if any("Map" in it or it.lower() in ("dict", "hashtable") for it in some):
+        raise Cannot(tell("types_meant"))
+    return ["int"] if set(some) & NUMBERS else ["bool"] if set(some) & TRUTHS else []
+
+
+def caps_of(home):
+    return ["tmp", "paused"] if home.is_tmp else ["mut", "imm", "iso", "paused"]
+
+
+def spelt(type):
+    """A type of the outline as it is written."""
+    return " ".join(it.decode() for it in type if it) if type else None
+
+
+class Names:
+    """What is there where a form stands: the classes, the class round it, and the variables with their types."""
+
+    def __init__(self, outline, place):
+        self.outline = outline
+        self.classes = {it.decode(): thing for it, thing in outline.classes.items()}
+        self.used = {it.decode("latin-1") for it in outline.toks}
+        self.locals = {it.decode() for it in re.findall(rb"\b(?:let|as)\s+([A-Za-z_]\w*)", outline.source.code)}
+        k = outline.ahead(place)
+        body = outline.body_of(k)
+        self.home = next((it for it in self.classes.values() if it.begin <= k <= it.end), None)
+        some = outline.walk(body, k)[0] if body is not None else []
+        self.env = {thing.name.decode(): type for thing, type in some}
+        self.locals |= {it.name.decode() for it in outline.declared.values() if it.kind == "parameter"}
+        self.declared = self.locals | {it.name.decode() for it in outline.declared.values()}
 
     def fresh(self, *wanted):
         name = next(it for it in (*wanted, *(f"{wanted[0]}{k}" for k in range(2, 99))) if it not in self.used and it not in language().words)
         self.used.add(name)
         return name
 
-    def note(self, place, why):
-        if why:
-            self.notes.append((place, why))
+    def member(self, home, name):
+        return home.members.get(name.encode()) if home is not None else None
 
-    def types(self, words, place=0):
-        """The types that are meant by some words in place of a type."""
-        words = [it for it in words if it not in ("&", "*", "?", "dyn", ".", "::", "^", "!", "(", ")")]
-        some = [it for it in words if it not in ("[", "]", "<", ">", ">>", ",", "mut", "ref", "const")] or words
-        if len(words) == 1 and words[0] in ("int", "bool") or len(words) == 2 and words[0] in CAPS and words[1] in self.classes:
-            return [joined(words)]
-        named = next((it for it in some if it in self.classes), None)
-        if "[" in words or any(it in ROWS and it not in self.classes for it in some):
-            of = f"mut {named}" if named else "bool" if set(some) & TRUTHS else "int"
-            rows = [it.name for it in self.classes.values() if it.element]
-            rows.sort(key=lambda it: joined(self.classes[it].element) != of)
-            if not rows:
-                raise Cannot(place, NO_ROW.format(self.fresh(f"{named}s" if named else "Row"), of))
-            return [f"mut {it}" for it in rows]
-        if named is not None:
-            caps = [it for it in words if it in CAPS] + [CAP_WORDS[it] for it in words if it in CAP_WORDS]
-            caps = [it for it in caps if it != "mut"] or caps
-            return [f"{cap} {named}" for cap in [*caps, *(["tmp", "paused"] if self.classes[named].is_tmp else ["mut", "paused", "imm", "iso"])]]
-        if set(some) & NUMBERS:
-            return ["int"]
-        if set(some) & TRUTHS:
-            return ["bool"]
-        if set(some) & TEXTS:
-            raise Cannot(place, TEXT)
-        if set(some) & {"Map", "HashMap", "TreeMap", "BTreeMap", "Dict", "dict", "Hashtable"}:
-            raise Cannot(place, "There are no generics and no maps: a class with an array, or a list of objects, does that.")
-        return []
+    def class_of(self, type):
+        return self.outline.classes.get(type[1]) if type else None
+
+    def type_of(self, some, extra=()):
+        """The type of an expression, as far as it is known."""
+        toks = cut(some)
+        texts = [it.text for it in toks]
+        if texts[0] == "(" and closing(toks, 0, len(toks) - 1) == len(toks) - 1:
+            return self.type_of(some[toks[0].end:toks[-2].start], extra)
+        if set(texts) & {"and", "or", "not", "==", "!=", "<", "<=", ">", ">=", "is", "true", "false", "more"}:
+            return b"bool", None
+        if texts[0] == "new":
+            named = next((it for it in texts if it in self.classes), None)
+            cap = b"iso" if "iso" in texts else b"tmp" if "tmp" in texts or named and self.classes[named].is_tmp else b"mut"
+            return (cap, named.encode()) if named else None
+        k = 1 if texts[0] in ("call", "freeze", "merge") else 0
+        end = path_end(toks, k)
+        if not end:
+            return (b"int", None) if toks[0].kind == "number" or texts[0] in ("-", "size", "read", "(") else None
+        type = dict(extra).get(texts[k]) or self.env.get(texts[k])
+        for name in texts[k + 2:end:2]:
+            type = self.outline.through(type, name.encode())[1]
+        if texts[end] == "[" and type and self.class_of(type) and self.class_of(type).element:
+            of = self.class_of(type).element
+            cap = language().read.get(type[0], {}).get(of[0]) if of[1] else None
+            type, end = ((cap, of[1]) if cap else of if not of[1] else None), closing(toks, end, len(toks)) or end
+        if texts[end] == "(":
+            end = closing(toks, end, len(toks)) or end
+        if texts[0] in ("freeze", "merge"):
+            return (b"imm" if texts[0] == "freeze" else b"mut", type[1]) if type else None
+        return type if texts[end] == "" else (b"int", None) if texts[end] in ("+", "-", "*", "/", "%") else None
 
     def all_types(self):
-        return ["int", "bool"] + [f"{cap} {it.name}" for it in self.classes.values() for cap in (["tmp", "paused"] if it.is_tmp else ["mut", "paused", "imm", "iso"])]
+        return ["int", "bool", *(f"{cap} {name}" for name, it in self.classes.items() for cap in caps_of(it))]
 
-    def member(self, type, name):
-        home = self.classes.get(type.split()[-1]) if type else None
-        if home is None:
-            return None, None
-        for it in home.some:
-            if it.kind == "method" and it.name == name:
-                return it, (self.some_type(it.result) if it.result else None)
-            if it.kind == "field" and name in it.names:
-                return it, self.through(type, self.some_type(it.type))
-        return None, None
 
-    def some_type(self, words):
-        try:
-            return next(iter(self.types(words or [])), None)
-        except Cannot:
-            return None
+# ---- Writing
 
-    def through(self, type, of):
-        if not of or " " not in of:
-            return of
-        cap = language().read.get(type.split()[0].encode(), {}).get(of.split()[0].encode())
-        return f"{cap.decode()} {of.split()[1]}" if cap else None
 
-    def type_of(self, e):
-        """The type of an expression, as far as it is known."""
-        kind = e.kind
-        if kind == "name":
-            return self.env.get(e.name) or (self.member(self.env.get("self"), e.name)[1] if self.home and e.name not in self.env else None) or (
-                self.env.get("self") if e.name in ("this", "self") else "bool" if e.name in ("True", "False") else None)
-        if kind in ("number", "size") or kind == "word" and e.said == "read" or kind == "step":
-            return "int"
-        if kind == "word":
-            return None if e.said == "nil" else "bool"
-        if kind in ("compare", "is_nil", "within"):
-            return "bool"
-        if kind == "unary":
-            return "bool" if e.op == "not" or e.op == "~" and self.type_of(e.of) == "bool" else self.type_of(e.of) if e.op in ("&", "*") else "int"
-        if kind == "binary":
-            return "bool" if e.op in ("and", "or", "xor") else "int"
-        if kind in ("paren", "wrap", "cast"):
-            return self.type_of(e.of)
-        if kind == "choice":
-            return self.type_of(e.yes) or (self.type_of(e.no) if e.no else None)
-        if kind == "path":
-            of = self.type_of(e.of)
-            home = self.classes.get(of.split()[-1]) if of else None
-            return "int" if home is not None and home.element and e.name in LENGTHS else self.member(of, e.name)[1] if of else None
-        if kind == "index":
-            of = self.type_of(e.of)
-            home = self.classes.get(of.split()[-1]) if of else None
-            return self.through(of, self.some_type(home.element)) if home is not None and home.element else None
-        if kind == "call":
-            if e.of.kind == "path":
-                if e.of.name in PLAIN:
-                    return self.type_of(e.of.of)
-                return "int" if e.of.name in LENGTHS and not self.member(self.type_of(e.of.of), e.of.name)[0] else self.member(self.type_of(e.of.of), e.of.name)[1]
-            if e.of.kind == "name":
-                if e.of.name in self.classes:
-                    return f"mut {e.of.name}"
-                if e.of.name in LENGTHS | {"abs", "int", "input", "ord"}:
-                    return "int"
-                return self.type_of(e.args[0][1]) if e.of.name in ("min", "max", "Some", "Ok", "Box") and e.args else self.member(self.env.get("self"), e.of.name)[1]
-        if kind == "new":
-            named = next((it for it in e.type if it in self.classes), None)
-            cap = next((it for it in e.type if it in CAPS), None) or ("tmp" if named and self.classes[named].is_tmp else "mut")
-            return f"{cap} {named}" if named else None
-        if kind == "verb":
-            of = self.type_of(e.of)
-            return ("imm " if e.verb == "freeze" else "mut ") + of.split()[1] if of and " " in of else None
+class Writer:
+    """Writes one form of a source as Reggio has it."""
+
+    def __init__(self, names):
+        self.names, self.notes, self.choices, self.renames = names, [], [], {}
+        self.stop = time.monotonic() + SECONDS
+
+    def hole(self, some=None):
+        """A type that is looked for among some, or among all."""
+        if some is not None and len(some) == 1:
+            return some[0]
+        self.choices.append(some)
+        return f"TYPE{len(self.choices) - 1}__"
+
+    def types(self, words):
+        return types_meant(words, self.names.classes, self.names.fresh)
+
+    def note(self, why):
+        self.notes += [why] if why else []
+
+    def write(self, code, kind):
+        """The form as Reggio has it, with holes for types."""
+        for _ in range(200):
+            edit = self.step(code, kind)
+            if edit is None:
+                return code
+            start, end, put = edit
+            code = code[:start] + put + code[end:]
+        raise Cannot("")
+
+    def step(self, code, kind):
+        """The first rule that applies, as an edit."""
+        toks = cut(code, self.names.classes)
+        some = list(every(toks, read_all(toks), kind))
+        for rows in (SURE, TOLD_ONLY):
+            for form, its in some:
+                for act in ACTS[its] if rows is SURE else (Writer.told,):
+                    edit = act(self, code, toks, form, its)
+                    if edit is not None and edit[2] != code[edit[0]:edit[1]]:
+                        return edit
         return None
 
-    # -- Expressions
+    def by_table(self, code, toks, form, kind, rows=None):
+        inner = [range(a, b) for a, b, _ in form.blocks]
+        places = {"statement": "SEPL", "member": "M", "top": "T"}[kind]
+        for k in range(form.first, form.last if kind == "statement" else form.first + 1):
+            if time.monotonic() > self.stop:
+                raise Cannot("")
+            if any(k in it for it in inner) and toks[k].text != "{":
+                continue
+            for where, parts, template, why in rows or SURE:
+                is_off = k > form.first and (where == "S" or where == "P" and ends_operand(toks[k - 1]) or toks[k - 1].text in JOINED)
+                if where not in places or is_off or parts[0][2] is not None and not parts[0][2].fullmatch(toks[k].text):
+                    continue
+                got = match(parts, toks, k, form.last)
+                if got is None or got[-1][2] == k or where == "L" and self.is_right(toks, form, k, got[-1][2]) or any(
+                        not name and toks[a].text in self.names.declared for name, a, b in got if b > a):
+                    continue
+                edit = self.fill(template, why, code, toks, got, parts, form)
+                if edit is not None:
+                    return edit
+        return None
 
-    def lift(self, e, said, *names):
-        """A right side that gets a name of its own in front of the statement."""
-        type = self.type_of(e)
-        name = self.fresh(*names)
-        type = type or self.choose(self.all_types())
-        self.pre.append(f"let {name}: {type} = {said};")
-        self.env[name] = type
-        self.note(e.start, "A call, and what is read or made, has a name of its own first." if said.startswith(("call", "new", "read", "more", "freeze", "merge")) else "")
-        return name
+    def is_right(self, toks, form, k, end):
+        """Whether a right side stands from a token to another one: what may stand there alone."""
+        if toks[k].text == "new" and toks[k - 1].text == "=":
+            return True
+        is_path = [it.text for it in toks[form.first:k]].count("let") or not any(it.text in (".", "[") for it in toks[form.first:k])
+        return toks[end].text == ";" and (k == form.first or toks[k - 1].text == "=" and (is_path or toks[k].text in ("new", "read", "more")))
 
-    def value(self, e, level=0):
-        """An expression."""
-        said, mine = getattr(self, "value_" + e.kind, self.value_raw)(e)
-        return f"({said})" if mine < level else said
+    def told(self, code, toks, form, kind):
+        """Raises what is told of a form that has none here."""
+        return self.by_table(code, toks, form, kind, TOLD_ONLY)
 
-    def value_raw(self, e):
-        if e.kind in ("new", "verb", "list") or e.kind == "call":
-            right, tail = self.right(e, None)
-            if re.match(r"(call|new|freeze|merge)\b", right):
-                right = self.lift(e, right, {"call": "got", "new": "made"}.get(right.split()[0], "taken"))
-            return right, 8
-        raise Cannot(e.start, FUNCTION if e.kind == "function" else "")
+    def fill(self, template, why, code, toks, got, parts, form):
+        """What a row's template gives for what its pattern found."""
+        src = lambda a, b: code[toks[a].start:toks[b - 1].end] if b > a else ""
+        alike = [part[2].pattern for part in parts if part[2] is not None and re.search(r"(?<!\\)\|", part[2].pattern)]
+        it = {name: src(a, b) for name, a, b in got if name}
+        words = [src(a, b) for name, a, b in got if not name]
+        chosen = [word for word in words if any(re.fullmatch(one, word) for one in alike)]
+        fresh = {}
 
-    def value_name(self, e):
-        if e.name in self.env or e.name in self.classes:
-            return e.name, 8
-        if e.name in VALUES:
-            if VALUES[e.name] != e.name:
-                self.note(e.start, f"`{e.name}` is `{VALUES[e.name]}` here.")
-            return VALUES[e.name], 8
-        if self.home is not None and any(it.kind == "field" and e.name in it.names for it in self.home.some):
-            self.note(e.start, f"A field of one's own is `self.{e.name}`: `self` is always written.")
-            return f"self.{e.name}", 8
-        return e.name, 8
+        def part(m):
+            name, turn, wraps, new = m.groups()
+            if new:
+                fresh[new] = fresh.get(new) or self.names.fresh(new, new + "_2")
+                return fresh[new]
+            if name is None:
+                return wrapped(it[wraps]) if wraps else self.hole()
+            if name[0].isdigit():
+                return chosen[int(name[0])][:-1 if name[1:] else None]
+            if turn == "~":
+                return re.sub(rf"(?<![\w.]){re.escape(it['p'])}(?=\.)", fresh["z"], it[name])
+            return turned(it[name], filled(turn[1:-1])) if turn else it[name]
 
-    def value_number(self, e):
-        it = e.said.replace("_", "").lower()
-        for pattern, base in ((r"0x([0-9a-f]+)", 16), (r"0b([01]+)", 2), (r"0o([0-7]+)", 8), (r"([0-9]+)(?:l|u|ul|ll|n|i64|u64|i32|u32|usize|isize)?", 10)):
-            m = re.fullmatch(pattern, it)
-            if m and len(it) < 40 and int(m[1], base) < 1 << 63:
-                if it != e.said or not it.isdigit():
-                    self.note(e.start, "A number is decimal digits alone.")
-                return str(int(m[1], base)), 8
-        raise Cannot(e.start, "Numbers are whole, and there are no fractions: count in tenths or hundredths, or round." if "." in it else "Numbers go from -9223372036854775808 to 9223372036854775807.")
-
-    def value_text(self, e):
-        raise Cannot(e.start, TEXT)
-
-    def value_word(self, e):
-        if e.said in ("read", "more"):
-            return self.lift(e, e.said, "got", "asked"), 8
-        if e.said in VALUES and VALUES[e.said] != e.said:
-            self.note(e.start, f"`{e.said}` is `{VALUES[e.said]}` here.")
-        return VALUES.get(e.said, e.said), 8
-
-    def value_paren(self, e):
-        said = self.value(e.of)
-        return (said, 8) if re.fullmatch(r"[\w.]+", said) and e.of.kind not in ("name", "path", "number", "word") else (f"({said})", 8)
-
-    def value_wrap(self, e):
-        self.note(e.start, ABOUT.get(e.word, ""))
-        return self.value(e.of, 8), 8
-
-    def value_cast(self, e):
-        self.note(e.start, "There are no conversions: a number is an `int`, and a reference is of its class.")
-        return self.value(e.of, 8), 8
-
-    def value_path(self, e):
-        type = self.type_of(e.of)
-        home = self.classes.get(type.split()[-1]) if type else None
-        if home is not None and home.element and e.name in LENGTHS:
-            self.note(e.start, "How many elements an array has is `size row`.")
-            return f"size {self.value(e.of, 8)}", 7
-        if e.op == "?.":
-            raise Cannot(e.place, "There is no `?.`: ask first whether it is nil.")
-        if e.op != ".":
-            self.note(e.place, f"A field is named behind a point: there is no `{e.op}`.")
-        of = self.value(e.of, 8)
-        if not re.fullmatch(r"[\w.]+", of):
-            self.note(e.start, "Behind `]` and `)` no path goes on: what stands in front of it has a name of its own first.")
-            of = self.lift(e.of, of, "it", "element")
-        return f"{of}.{e.name}", 8
-
-    def value_size(self, e):
-        return f"size {self.value(e.of, 8)}", 7
-
-    def value_index(self, e):
-        of = self.value(e.of, 8)
-        if not re.fullmatch(r"[\w.]+", of):
-            self.note(e.start, "Behind `]` no `[` follows: an element has a name of its own first.")
-            of = self.lift(e.of, of, "row", "it")
-        return f"{of}[{self.value(e.at)}]", 8
-
-    def value_step(self, e):
-        of = self.value(e.of, 8)
-        self.note(e.start, f"There is no `{e.op * 2}` inside of an expression: `{of} = {of} {e.op} 1;` is a statement.")
-        self.post.append(f"{of} = {of} {e.op} 1;")
-        return of, 8
-
-    def value_unary(self, e):
-        if e.op in ("&", "*"):
-            self.note(e.start, "Nothing stands in front of a reference that is handed on: a variable is one already, and its type says what it permits.")
-            return self.value(e.of, 8), 8
-        if e.op == "+":
-            return self.value(e.of, 7), 7
-        if e.op == "not":
-            if self.code[e.start] == "!":
-                self.note(e.start, "For `!` there is `not`.")
-            return self.negated(e.of)
-        if e.op == "-":
-            if e.of.kind == "number" and e.of.said == "9223372036854775808":
-                self.note(e.start, "The least number isn't written as one.")
-                return "-9223372036854775807 - 1", 5
-            return "-" + self.value(e.of, 8), 7
-        if e.op == "~" and self.type_of(e.of) == "bool":
-            return self.negated(e.of)
-        raise Cannot(e.start, "There are no operators on bits." if e.op == "~" else "")
-
-    def negated(self, e):
-        said = self.truth(e, 3)
-        return ("not " + said, 3) if not said.startswith("not ") else (said[4:], 4)
-
-    def truth(self, e, level=0):
-        """An expression as a test."""
-        type = self.type_of(e)
-        if type and type != "bool" and e.kind in ("name", "path", "call", "index", "paren"):
-            said = self.value(e, 4)
-            self.note(e.start, "A test is a `bool`: of a reference it asks `is nil`, of a number `!= 0`.")
-            said, mine = (f"{said} != 0", 4) if type == "int" else (f"not {said} is nil", 3)
-            return f"({said})" if mine < level else said
-        return self.value(e, level)
-
-    def value_binary(self, e):
-        op = e.op
-        if op in ("&", "|") and "bool" in (self.type_of(e.left), self.type_of(e.right)):
-            op = {"&": "and", "|": "or"}[op]
-        if op in ("or", "and"):
-            if self.code[e.place] in "|&":
-                self.note(e.place, "For `&&` and `||` there are `and` and `or`.")
-            left, held = self.truth(e.left, LEVELS[op]), self.pre
-            self.pre = []
-            right, inner, self.pre = self.truth(e.right, LEVELS[op] + 1), self.pre, held
-            if inner:      # what the right side needs is done only where it is asked
-                name = self.fresh("is_so", "both")
-                self.pre.append(f"let {name}: bool = {left}; if {'not ' if op == 'or' else ''}{name} {{ {joined(inner)} {name} = {right}; }}")
-                return name, 8
-            return f"{left} {op} {right}", LEVELS[op]
-        if op == "&" and e.right.kind == "number" and e.right.said == "1":
-            self.note(e.place, "There are no operators on bits.")
-            return f"{self.value(e.left, 6)} % 2", 6
-        if op == "**":
-            if e.right.kind == "number" and e.right.said in ("2", "3"):
-                self.note(e.place, "There are no powers: write the product.")
-                return " * ".join([self.value(e.left, 7)] * int(e.right.said)), 6
-            raise Cannot(e.place, "There are no powers: write the product.")
-        if op in ("|", "^", "&", "<<", ">>", "??", "?:", "xor"):
-            raise Cannot(e.place, "There are no operators on bits." if len(op) < 2 or op[0] in "<>" else "For truth values `!=` says that they differ." if op == "xor" else f"There is no `{op}`: ask `is nil` first, by an `if`.")
-        if op == "//":
-            self.note(e.place, "`//` begins a comment; `/` divides whole numbers.")
-            op = "/"
-        if op not in LEVELS:
-            raise Cannot(e.place, "")
-        if self.code[e.place:e.place + 3] in ("mod", "div"):
-            self.note(e.place, f"It is `{op}` here.")
-        return f"{self.value(e.left, LEVELS[op])} {op} {self.value(e.right, LEVELS[op] + 1)}", LEVELS[op]
-
-    def value_compare(self, e):
-        parts, left = [], e.first
-        for op, right, place in e.rest:
-            for one, other in ((left, right), (right, left)):
-                if other.kind in ("name", "word") and VALUES.get(other.name if other.kind == "name" else other.said) == "nil" and op in ("==", "!="):
-                    self.note(place, "For nil there is `is nil`, not `==`.")
-                    parts.append(("not " if op == "!=" else "") + f"{self.value(one, 8)} is nil")
-                    break
-            else:
-                parts.append(f"{self.value(left, 5)} {op} {self.value(right, 5)}")
-            left = right
-        if len(parts) > 1:
-            self.note(e.rest[1][2], "A comparison has two sides: `a < b and b < c`.")
-            return " and ".join(parts), 2
-        if self.code[e.rest[0][2]:e.rest[0][2] + 3] in ("===", "!==") or self.code[e.rest[0][2]:e.rest[0][2] + 2] in ("<>", "~="):
-            self.note(e.rest[0][2], f"It is `{e.rest[0][0]}` here.")
-        elif self.code[e.rest[0][2]] == "=" != self.code[e.rest[0][2] + 1]:
-            self.note(e.rest[0][2], "A comparison is `==`: `=` gives a value.")
-        return parts[0], 3 if parts[0].startswith("not ") else 4
-
-    def value_is_nil(self, e):
-        if e.no or e.word != "nil":
-            self.note(e.start, "Whether a reference leads to something is `not .. is nil`.")
-        of = self.value(e.of, 8)
-        if not re.fullmatch(r"[\w.]+", of):
-            of = self.lift(e.of, of, "it", "got")
-        return ("not " if e.no else "") + f"{of} is nil", 3 if e.no else 4
-
-    def value_within(self, e):
-        raise Cannot(e.start, "Nothing asks whether an array has an element: a loop looks for it.")
-
-    def value_choice(self, e):
-        self.note(e.test.start, "A value isn't chosen inside of an expression: an `if` is a statement.")
-        type = self.type_of(e) or self.choose(self.all_types())
-        name = self.fresh("v", "chosen")
-        no = self.value(e.no) if e.no else START.get(type, "nil")
-        self.pre.append(f"let {name}: {type} = {no}; if {self.truth(e.test)} {{ {name} = {self.value(e.yes)}; }}")
-        return name, 8
-
-    def value_range(self, e):
-        raise Cannot(e.start, ABOUT["for"])
-
-    # -- Right sides
-
-    def right(self, e, name):
-        """A right side, and the statements that follow it, where `name` has the value."""
-        kind = e.kind
-        if kind in ("paren", "wrap") and e.of.kind in ("call", "new", "verb", "list", "wrap", "name"):
-            if kind == "wrap":
-                self.note(e.start, ABOUT.get(e.word, ""))
-                if e.word == "recover" and e.of.kind == "name" and e.of.name in self.classes:
-                    return f"new iso {e.of.name} in arena", ""
-                if e.word == "recover" and e.of.kind == "new" or e.of.kind == "call" and e.word == "recover":
-                    return re.sub(r"^new (?!iso)(\w+)(.*)$", r"new iso \1\2 in arena", self.right(e.of, name)[0]), ""
-            return self.right(e.of, name)
-        if kind == "word" and e.said in ("read", "more"):
-            return e.said, ""
-        if kind == "verb":
-            of = self.value(e.of, 8)
-            if "." in of:
-                type = self.member(self.type_of(e.of.of), e.of.name)[1] if e.of.kind == "path" else None
-                taken = self.fresh("taken", "out")
-                self.pre.append(f"let {taken}: {type or self.choose(self.all_types())} = nil; swap {taken}, {of};")
-                of = taken
-            return f"{e.verb} {of}", ""
-        if kind == "binary" and e.op == "*" and e.left.kind == "list":      # [0] * 4
-            return self.row(Node("list", e.start, args=[(None, e.right)], sign="new"), name)
-        if kind == "choice" and name:
-            self.note(e.test.start, "A value isn't chosen inside of an expression: an `if` is a statement.")
-            no = self.value(e.no) if e.no else START.get(self.type_of(e), "nil")
-            return no, f" if {self.truth(e.test)} {{ {name} = {self.value(e.yes)}; }}"
-        if kind == "new":
-            return self.made(e, name)
-        if kind == "list":
-            return self.row(e, name)
-        if kind == "call":
-            return self.called(e, name)
-        return self.value(e), ""
-
-    def made(self, e, name):
-        named = next((it for it in e.type if it in self.classes), None)
-        cap = next((it for it in e.type if it in CAPS), None) or next((CAP_WORDS[it] for it in e.type if it in CAP_WORDS), None)
-        if named is None:
-            if e.size is not None or e.args is not None and (set(e.type) & (ROWS | NUMBERS | TRUTHS)):
-                return self.row(Node("list", e.start, args=[(None, e.size)] if e.size else e.args or [], sign="new", words=e.type), name)
-            return f"new {e.type[-1] if e.type else ''}", ""
-        home, tail = self.classes[named], ""
-        size = self.value(e.size) if e.size is not None else self.value(e.args[0][1]) if e.args and home.element else self.choose(["1", "3"]) if home.element else None
-        if e.args is not None and not home.element:
-            self.note(e.start, "There are no constructors: `new C` makes an object whose fields are 0, `false` and nil, and behind it they are written.")
-            fields = [(it.names[0], it) for it in home.some if it.kind == "field" and it.names]
-            maker = next((it for it in home.some if it.kind == "method" and it.name in (named, "init", "__init__", "constructor", "new", "create", "set") and len(it.params) == len(e.args)), None) if all(not one for one, _ in e.args) else None
-            if maker is not None and e.args:
-                tail = f" call {name or 'it'}.{maker.name if maker.name not in (named, '__init__', 'constructor', 'new') else 'init'}({', '.join(self.value(it) for _, it in e.args)});"
-            else:
-                pairs = [(one or (fields[k][0] if k < len(fields) else None), self.value(it) if not (it.kind == "raw") else None) for k, (one, it) in enumerate(e.args)]
-                tail = "".join(f" {name or 'it'}.{one} = {it};" for one, it in pairs if one and it and it not in ("0", "false", "nil"))
-        how = "new iso " if cap == "iso" else "new tmp " if cap == "tmp" or home.is_tmp else "new "
-        said = how + named + (f" [{size}]" if size is not None else "") + (f" in {e.manager or 'arena'}" if cap == "iso" else "")
-        if tail and not name:
-            made = self.lift(e, said, "made")
-            self.pre[-1] += tail.replace(" it.", f" {made}.")
-            return made, ""
-        return said, tail
-
-    def row(self, e, name):
-        """A list or an array that is written out."""
-        rows = [it.name for it in self.classes.values() if it.element]
-        if e.sign == "{" and e.args and all(one for one, _ in e.args):
-            fits = [it for it in self.classes.values() if not it.element and {one for one, _ in e.args} <= {n for m in it.some if m.kind == "field" for n in m.names}]
-            if fits:
-                return self.made(Node("new", e.start, type=[fits[0].name], args=e.args, size=None, manager=None), name)
-        if e.sign == "(":
-            raise Cannot(e.start, "There are no tuples: several values stand in the fields of an object.")
-        if not rows:
-            of = next((f"mut {it}" for it in getattr(e, "words", []) if it in self.classes), None)
-            types = {self.type_of(it) for _, it in e.args} if e.sign != "new" else set()
-            raise Cannot(e.start, NO_ROW.format(self.fresh(of.split()[1] + "s" if of else "Row"), of or next((it for it in types if it), "int")))
-        array = self.choose(rows)
-        self.note(e.start, f"An array is of a class of its own, here `{array}`: `new {array} [3]` makes one, and its elements are written one by one.")
-        if e.sign == "new":
-            return f"new {array} [{self.value(e.args[0][1]) if e.args else '0'}]", ""
-        if len(e.args) > 8:
-            raise Cannot(e.start, "")
-        return f"new {array} [{len(e.args)}]", "".join(f" {name or 'row'}[{k}] = {self.value(it)};" for k, (_, it) in enumerate(e.args))
-
-    def called(self, e, name):
-        of, args = e.of, [it for _, it in e.args]
-        word = of.name if of.kind in ("name", "path") else ""
-        if of.kind == "path" and of.of.kind == "name" and of.of.name in self.classes and of.of.name not in self.env or of.kind == "name" and word in self.classes:
-            home = word if of.kind == "name" else of.of.name     # Node(..), Node.create(..), Node::new(..)
-            return self.made(Node("new", e.start, type=[home], args=e.args, size=None, manager=None), name)
-        if getattr(e, "macro", False):
-            if word == "vec":
-                return self.row(Node("list", e.start, args=e.args[e.is_repeated:], sign="new" if e.is_repeated else "["), name)
-            raise Cannot(e.start, TEXT if word == "format" else "")
-        if of.kind == "name" and word not in self.env:
-            one = args[0] if len(args) == 1 else None
-            own = next((it for it in self.home.some if it.kind == "method" and it.name == word), None) if self.home is not None else None
-            if own is not None:
-                self.note(e.start, f"A method of one's own is called as `call self.{word}(..)`.")
-                return f"call self.{word}({', '.join(self.value(it) for it in args)})", ""
-            if word in LENGTHS and one is not None:
-                self.note(e.start, "How many elements an array has is `size row`.")
-                return f"size {self.value(one, 8)}", ""
-            if word in ("input", "readLine", "scan", "raw_input", "readline", "gets") and not args:
-                return "read", ""
-            if one is not None and word in ("int", "bool", "Some", "Ok", "Box", "Rc", "Arc", "Just", "Integer", "long", "parseInt", "float", "number"):
-                self.note(e.start, "There are no conversions and no boxes: the value stands for itself.")
-                return self.right(one, name)
-            if word in ("str", "String", "chr", "ord"):
-                raise Cannot(e.start, TEXT)
-            raise Cannot(e.start, f"`{word}` is written as a function, and there are none outside of classes: a method is called as `call object.{word}(..)`.")
-        if of.kind == "path":
-            type = self.type_of(of.of)
-            home = self.classes.get(type.split()[-1]) if type else None
-            method = self.member(type, word)[0]
-            if method is None and home is not None and home.element and word in LENGTHS:
-                self.note(e.start, "How many elements an array has is `size row`.")
-                return f"size {self.value(of.of, 8)}", ""
-            if method is None and home is not None and home.element and word in ("get", "at") and len(args) == 1:
-                return f"{self.value(of.of, 8)}[{self.value(args[0])}]", ""
-            if method is None and word in PLAIN:
-                self.note(of.place, f"A reference stands for itself: there is no `{word}`.")
-                return self.right(of.of, name)
-            if method is None and word in ("is_none", "is_nil", "isNull", "is_null", "is_some", "isPresent"):
-                self.note(of.place, "Whether a reference leads to something is `not .. is nil`.")
-                return ("not " if word in ("is_some", "isPresent") else "") + f"{self.value(of.of, 8)} is nil", ""
-            if home is not None and home.element or word in ("forEach", "map", "filter", "reduce", "iter", "into_iter", "stream", "sort", "sorted", "append", "push_back"):
-                if method is None:
-                    raise Cannot(of.place, "Arrays have no methods, and keep their size: a loop goes along, `let i: int = 0; while i < size row { .. row[i] .. i = i + 1; }`, and what grows is a list of objects.")
-        if any(it.kind == "function" for it in args):
-            raise Cannot(e.start, FUNCTION)
-        if of.kind == "path" and method is None and home is not None:
-            if word in ("equals", "eq", "is_equal") and len(args) == 1:
-                self.note(of.place, "Whether two references lead to one object, `==` says.")
-                return f"({self.value(of.of, 5)} == {self.value(args[0], 5)})", ""
-            raise Cannot(of.place, f"`{home.name}` has no method `{word}`.")
-        path = self.value(of, 8)
-        if not getattr(e, "is_called", False):
-            self.note(e.start, "A method is called with `call` in front.")
-        return f"call {path}({', '.join(self.value(it) for it in args)})", ""
+        filled = lambda some: re.sub(r"\$(?:([a-z]\d?|\d-?)(~|\{[^{}]*\})?|\(([a-z]\d?)\))|@(\w+)|%T", part, some)
+        told = ABOUT.get(why, why) or ABOUT.get(words[0] if words else "", "")
+        if template is None:
+            raise Cannot(told)
+        self.note(filled(told) if "$" in told else told)
+        put = template
+        start, end, (*ahead, put) = toks[got[0][1]].start, toks[got[-1][2] - 1].end, filled(put).split(" || ")
+        first = toks[form.first]
+        if not ahead:
+            return start, end, put
+        if first.text == "else":
+            raise Cannot("")
+        turn = re.sub(r"^let (\w+): \w+", r"\1", ahead[0])
+        block = turned(code[toks[form.blocks[0][0]].start:toks[form.blocks[0][1]].end], turn) if first.text == "while" and form.blocks else ""
+        stop = toks[form.blocks[0][1]].end if block else end
+        return first.start, stop, f"{ahead[0]} {code[first.start:start]}{put}" + (code[end:toks[form.blocks[0][0]].start] + block if block else "")
 
     # -- Statements
 
-    def indent(self, place):
-        start = self.code.rfind("\n", 0, place) + 1
-        return re.match(r"[ \t]*", self.code[start:])[0]
-
-    def line_break(self, place):
-        """What parts two statements that stand for one."""
-        return "\n" + self.indent(place)
-
-    def replace(self, start, end, put):
-        cut = lambda some: re.findall(r"\w+|[=!<>]=|\S", some)
-        if start == end or cut(self.code[start:end]) != cut(put):
-            self.edits.append((start, end, put))
-
-    def insert(self, place, put):
-        self.edits.append((place, place, put))
-
-    def render(self, start, end):
-        """What stands between two places behind the edits that lie there, which are taken out."""
-        some = sorted((it for it in self.edits if start <= it[0] and it[1] <= end), key=lambda it: it[:2])
-        self.edits = [it for it in self.edits if it not in some]
-        out, at = [], start
-        for a, b, put in some:
-            out += [self.code[at:a], put]
-            at = max(at, b)
-        return "".join([*out, self.code[at:end]])
-
-    def ahead(self):
-        """What has to stand in front of the statement."""
-        pre, self.pre = self.pre, []
-        return pre
-
-    def put(self, node, *said):
-        """Writes a statement, behind what it needs in front of it."""
-        some, self.post = [*self.ahead(), *(it for it in said if it), *self.post], []
-        if said and not node.__dict__.get("semi", True) and self.code[node.end:node.end + 1] != ";":
-            self.note(node.end, "A statement ends with `;`.")
-        self.replace(node.start, node.end, self.line_break(node.start).join(some))
-
-    def stmt(self, node):
-        act = getattr(self, "on_" + node.kind, None)
-        if act is None:
-            raise Cannot(node.start, "")
-        act(node)
-
-    def on_raw(self, node):
-        word = re.match(r"\w*", self.code[node.start:])[0]
-        raise Cannot(node.start, ABOUT.get(word, "") if word not in self.env else "")
-
-    def on_let(self, node):
-        word, right, tails = node.word, node.right, []
-        types = self.types(node.type, node.start) if node.type else []
-        is_good = self.code[node.start:node.start + 4].rstrip() == "let" and node.type is not None and word == "let"
-        if not is_good:
-            self.note(node.start, "A variable is declared as `let NAME: TYPE = VALUE;`." + (" There is no `let` without a type." if word in ("let", "var", "val", "const") and not node.type else ""))
-        of = (self.type_of(right) if right is not None else None) if not types else None
-        many = node.names
-        if len(many) > 1 and right is not None and right.kind == "list" and len(right.args) == len(many):
-            rights = [it for _, it in right.args]
-        else:
-            rights = [right] * len(many)
-        for name, one in zip(many, rights):
-            if name in language().words:
-                self.note(node.start, f"`{name}` is a reserved word, and no name.")
-                name = self.renamed(node, name)
-            said, tail = self.right(one, name) if one is not None else ("", "")
-            sure = re.match(r"new (iso |tmp )?(\w+)", said)
-            if node.type and types and not sure:
-                type = self.choose(types)
-            elif sure:
-                mine = f"{(sure[1] or 'mut ').strip()} {sure[2]}"
-                type = mine if not types or mine in types[:1] else self.choose([types[0], mine] if types[0].split()[0] == "iso" else [mine, *types])
-                if type.startswith("iso ") and not sure[1]:
-                    said = said.replace("new ", "new iso ", 1) + " in arena"
-                    self.note(node.start, f"What an `iso` variable owns is a region of its own: `{said}`.")
-            elif not types and said and re.match(r"(freeze|merge|call)\b", said) or said:
-                type = of or self.choose(self.all_types())
-            else:
-                type = self.choose(types or self.all_types())
-            if one is None:
-                said = START.get(type, "nil")
-                self.note(node.start, "No variable is without a value.")
-            self.env[name] = type
-            tails.append(f"let {name}: {type} = {said};{tail}")
-        self.put(node, *tails)
-
-    def renamed(self, node, name):
-        """Another name for a variable with that of a reserved word, up to the end of its block."""
-        depth, new = 0, self.fresh("total", "number", "other")
-        for it in self.reader.toks:
-            if it.start >= node.end and depth >= 0:
-                depth += (it.text == "{") - (it.text == "}")
-                if it.text == name and it.kind == "name" and depth >= 0:
-                    self.edits.append((it.start, it.end, new))
-        return new
-
-    def target(self, e):
-        return self.value(e, 8)
-
-    def on_assign(self, node):
-        lefts, rights, op = node.lefts, node.rights, node.op
-        if len(lefts) == len(rights) == 2 and not op:       # a, b = b, a
-            self.note(node.start, "One assignment gives one value: two variables exchange by a third.")
-            a, b = (self.target(it) for it in lefts)
-            held = self.fresh("held")
-            type = self.type_of(lefts[0]) or self.choose(self.all_types())
-            c, d = (self.value(it) for it in rights)
-            return self.put(node, f"let {held}: {type} = {a};", f"{a} = {c};", f"{b} = " + re.sub(rf"(?<![\w.]){re.escape(a)}(?![\w.])", held, d) + ";")
-        if len(lefts) != 1 or len(rights) != 1:
-            raise Cannot(node.start, "One assignment gives one value to one variable.")
-        said = []
-        left = self.target(lefts[0])
-        if op:
-            self.note(node.start, f"There is no `{op}=`: `{left} = {left} {op} ..;`.")
-            level = LEVELS.get(op)
-            if level is None:
-                raise Cannot(node.start, "There are no powers and no operators on bits.")
-            said.append(f"{left} = {left} {op} {self.value(rights[0], level + 1)};")
-        else:
-            # A name that nothing has yet is declared.
-            first, tail = self.right(rights[0], left)
-            of = self.type_of(rights[0])
-            if lefts[0].kind == "name" and re.fullmatch(r"\w+", left) and left not in self.env and left != "self":
-                type = of or self.choose(self.all_types())
-                self.note(node.start, "A variable is declared before it is assigned: `let` gives its name, its type and its value.")
-                self.env[left] = type
-                said.append(f"let {left}: {type} = {first};{tail}")
-            elif first.startswith("call ") and not re.fullmatch(r"\w+", left):
-                held = self.lift(rights[0], first, "got")
-                said.append(f"{left} = {held};")
-            else:
-                said.append(f"{left} = {first};{tail}")
-        self.put(node, *said)
-
-    def on_alone(self, node):
-        e = node.of
-        if e.kind == "step" or e.kind == "unary" and e.op in ("++", "--"):
-            of = self.target(e.of)
-            self.note(node.start, f"There is no `{e.op[0] * 2}`: `{of} = {of} {e.op[0]} 1;`.")
-            return self.put(node, f"{of} = {of} {e.op[0]} 1;")
-        if e.kind == "text":
-            return self.replace(node.start, node.end, "// " + joined(e.said.strip("\"'`").split()) + self.line_break(node.start))
-        if self.method is not None and self.method.result and self.is_last(node):
-            self.note(node.start, "What a method gives is returned by `return ..;`, in the last place of its body.")
-            return self.on_return(Node("return", node.start, of=e, end=node.end))
-        if e.kind in ("call", "wrap", "paren"):
-            said, tail = self.right(e, None)
-            if said.startswith("call "):
-                return self.put(node, said + ";")
-        if e.kind in ("verb", "new") or e.kind == "word" and e.said == "read":
-            self.note(node.start, "What is made, frozen, merged or read is given to a variable.")
-            name = self.fresh("made" if e.kind == "new" else "got")
-            said, tail = self.right(e, name)
-            return self.put(node, f"let {name}: {self.type_of(e) or self.choose(self.all_types())} = {said};{tail}")
-        if e.kind == "choice":
-            raise Cannot(node.start, "")
-        raise Cannot(e.start, "")
-
-    def is_last(self, node):
-        body = self.method.body
-        return body is not None and body.some and body.some[-1] is node
-
-    def on_print(self, node):
-        shown = []
-        for _, it in node.args:
-            if it.kind == "text":
-                self.note(it.start, TEXT)
-            elif not (it.kind == "name" and it.name in ("endl", "env")) and not (it.kind == "path" and it.name == "endl"):
-                said, tail = self.right(it, None)
-                shown.append(self.lift(it, said, "shown") if re.match(r"(call|new|read|more|freeze|merge)\b", said) else said)
-        if node.word != "print" or len(node.args) != 1:
-            self.note(node.start, "A value is printed by `print VALUE;`, one on a line.")
-        if not shown:
-            if node.args:
-                raise Cannot(node.start, TEXT)
-            raise Cannot(node.start, "`print` shows one value, on a line of its own: there are no empty lines.")
-        if len(shown) == 1 and node.word == "print" and getattr(node, "paren", False):
-            shown = [f"({shown[0]})"]
-        self.put(node, *(f"print {it};" for it in shown))
-
-    def on_return(self, node):
-        if node.of is None:
-            if self.result is None:
-                self.note(node.start, "A method without a result ends with its block: there is no `return;`.")
-                return self.replace(node.start, node.end, "")
-            return self.replace(node.start, node.end, f"{self.result['done']} = true;" if self.result["done"] else "")
-        name = self.result["name"] if self.result else self.fresh("r") if node.of.kind in ("choice", "call", "new", "list", "wrap") else None
-        type = self.some_type(self.method.result) if self.method is not None else None
-        said, tail = self.right(node.of, name)
-        if self.result:
-            return self.put(node, f"{name} = {said};{tail}" + (f" {self.result['done']} = true;" if self.result["done"] else ""))
-        if tail or re.match(r"(call|new|read|more|freeze|merge)\b", said):
-            type = type or self.type_of(node.of) or self.choose(self.all_types())
-            return self.put(node, f"let {name}: {type} = {said};{tail}", f"return {name};")
-        self.put(node, f"return {said};")
-
-    def on_command(self, node):
-        word = node.word
-        self.note(node.start, ABOUT.get(word, ""))
-        if word == "pass":
-            self.replace(node.start, node.end, "")
-        elif word in ("break", "continue") and self.loop is not None:
-            self.replace(node.start, node.end, f"{self.loop['go']} = false;" if word == "break" else "")
-        elif word == "collect":
-            self.put(node, "collect;")
-        elif word in ("del", "delete", "free", "drop") and node.of is not None:
-            of = node.of.args[0][1] if node.of.kind == "list" and node.of.args else node.of.of if node.of.kind == "paren" else node.of
-            self.put(node, self.target(of) + " = nil;")
-        elif word == "assert" and node.of is not None:
-            self.put(node, f"if not ({self.value(node.of)}) {{ print 0; }}")
-        else:
-            raise Cannot(node.start, ABOUT.get(word, ""))
-
-    def on_swap(self, node):
-        a, b = (self.target(it) for it in node.some)
-        if "." in a and "." not in b:
-            a, b = b, a
-        elif "." not in b:
-            self.note(node.start, "`swap` exchanges a variable with a field: two variables exchange by a third.")
-            held = self.fresh("held")
-            return self.put(node, f"let {held}: {self.type_of(node.some[0]) or self.choose(self.all_types())} = {a};", f"{a} = {b};", f"{b} = {held};")
-        self.put(node, f"swap {a}, {b};")
-
-    # -- Blocks
-
-    def braces(self, block, indent):
-        """The braces of a block that has none, and the `;` of its last statement."""
-        if block.form == "brace" or not block.some and block.form == "one":
-            return
-        start, end = block.opens
-        last = block.some[-1].end if block.some else end
-        if block.form == "one":
-            self.insert(block.start, "{ ")
-            return self.insert(last, " }")
-        self.note(start, "A block stands in braces: `{ .. }`.")
-        self.replace(start, end, "{" if self.code[start - 1:start] in " \n" else " {") if end > start else self.insert(self.code.rfind("\n", 0, start) if "\n" in self.code[:start] else start, " {")
-        if block.shuts is not None:
-            self.replace(block.shuts.start, block.shuts.end, "}")
-        else:
-            self.insert(last, "\n" + indent + "}" if "\n" in self.code[start:last] else " }")
-
-    def block(self, block):
-        env = dict(self.env)
-        self.sequence(block.some)
-        self.env = env
-
-    def leaves(self, node, always=False):
-        """Whether a form may leave the loop or the method that it stands in, or always does."""
-        if node is None:
-            return False
-        if node.kind == "command" and node.word in ("break", "continue"):
-            return self.loop is not None
-        if node.kind == "return":
-            return self.result is not None
-        if node.kind == "block":
-            return any(self.leaves(it, always) for it in node.some)
-        if node.kind == "if":
-            some = [self.leaves(node.yes, always), self.leaves(node.no, always)]
-            return all(some) if always else any(some)
-        if node.kind in ("while", "for", "do"):
-            return not always and self.result is not None and node.has(lambda it: it.kind == "return")
-        return node.kind == "enter" and self.leaves(node.body, always)
-
-    def sequence(self, some):
-        for k, it in enumerate(some):
-            rest = some[k + 1:]
-            self.stmt(it)
-            if not rest or not self.leaves(it):
+    def words(self, code, toks, form, kind):
+        """Words and signs for which another one stands."""
+        for k in range(form.first, form.last):
+            it = toks[k]
+            put = SIGNS.get(it.text) if it.kind == "sign" else WORDS.get(it.text)
+            before = toks[k - 1].text if k else ""
+            is_own = it.kind == "name" and (it.text in self.names.declared or before in (".", "let", "def") or toks[k + 1].text == "(")
+            if put is None or is_own or it.text == "!" and k > form.first and ends_operand(toks[k - 1]):
                 continue
-            if it.kind == "if" and it.no is None and self.leaves(it.yes, True):
-                self.insert(it.end, " else {")
-                self.sequence(rest)
-            elif self.leaves(it, True):
-                self.replace(rest[0].start, rest[-1].end, "")
-                return
-            elif self.result is not None and it.has(lambda one: one.kind == "return") and self.result["done"]:
-                self.insert(rest[0].start, f"if not {self.result['done']} {{ ")
-                self.sequence(rest)
-            elif self.loop is not None and self.loop["go"] and not it.has(lambda one: one.kind == "command" and one.word == "continue"):
-                self.insert(rest[0].start, f"if {self.loop['go']} {{ ")
-                self.sequence(rest)
-            else:
-                raise Cannot(it.start, "")
-            self.insert(rest[-1].end, " }")
-            return
+            self.note(TOLD.get(put, "It is `{1}` here.").format(it.text, put))
+            return it.start, it.end, put + " " * (it.text == "!")
+        return None
 
-    def on_block(self, node):
-        raise Cannot(node.start, "A block stands behind `if`, `else`, `while` or `enter` alone.")
+    def numbers(self, code, toks, form, kind):
+        for it in toks[form.first:form.last]:
+            if it.kind != "number" or it.text.isdigit() and len(it.text.lstrip("0")) < 19:
+                continue
+            said = it.text.replace("_", "").lower()
+            if said == "9223372036854775808" and code[:it.start].endswith("-"):
+                self.note("The least number isn't written as one.")
+                return it.start - 1, it.end, "-9223372036854775807 - 1"
+            for pattern, base in ((r"0x([0-9a-f]+)", 16), (r"0b([01]+)", 2), (r"0o([0-7]+)", 8), (r"(\d+)(?:u?l{1,2}|u|n|[iu](?:\d\d|size))?", 10)):
+                m = re.fullmatch(pattern, said)
+                if m and int(m[1], base) < 1 << 63:
+                    self.note("A number is decimal digits alone." if str(int(m[1], base)) != it.text else "")
+                    return it.start, it.end, str(int(m[1], base))
+            raise Cannot(tell("numbers") if "." in said
+                         else "Numbers go from -9223372036854775808 to 9223372036854775807.")
+        return None
 
-    def on_if(self, node, at=None):
-        word, place = node.word, at if at is not None else node.start
-        indent = self.indent(node.start)
-        if word != "if" or at is not None:
-            self.note(place, ABOUT["elif"] if at is not None else ABOUT.get(word, ""))
-        bound = []
-        if node.bound is not None:
-            self.note(node.start, "A variable is declared in front of the `if`.")
-            name, e = node.bound
-            said, tail = self.right(e, name)
-            type = self.type_of(e) or self.choose(self.all_types())
-            self.env[name] = type
-            bound = [f"let {name}: {type} = {said};{tail}"]
-        test = f"not {node.bound[0]} is nil" if node.test is None else self.truth(node.test)
-        if word in ("unless", "guard"):
-            test = f"not ({test})"
-        head = self.line_break(node.start).join([*self.ahead(), *bound, f"if {test}"]) + " "
-        if at is None:
-            self.replace(node.start, node.head, head if node.yes.form == "brace" else head.rstrip())
-        else:
-            self.replace(at, node.head, "else { " + (head if node.yes.form == "brace" else head.rstrip()))
-        self.block(node.yes)
-        self.braces(node.yes, indent)
-        if node.no is not None and node.no.kind == "if":
-            self.on_if(node.no, node.no_at)
-        elif node.no is not None:
-            self.block(node.no)
-            self.braces(node.no, indent)
-        if at is not None:
-            self.insert(node.end, " }")
+    def braces(self, code, toks, form, kind):
+        """A block of one statement without braces, and an `else` that has an `if` behind it."""
+        spans = [range(a + 1, b) for a, b, _ in form.blocks]
+        for k in range(form.first, form.last):
+            if any(k in it for it in spans):
+                continue
+            it, then = toks[k], toks[k + 1]
+            if it.text in ("elif", "elseif", "elsif", "elsf") or it.text == "else" and then.text == "if":
+                self.note(ABOUT["elif"])
+                end = toks[form.last - 1].end
+                return it.start, end, "else { if" + code[(then if it.text == "else" else it).end:end] + " }"
+            if it.text == "else" and then.text not in ("{", "if", ":"):
+                self.note(tell("block"))
+                return self.in_braces(code, toks, k + 1, form.last)
+            if it.text in ("if", "while") and k == form.first and not form.blocks:
+                for end in runs(toks, k + 1, form.last - 1, False):
+                    if ends_operand(toks[end - 1]) and toks[end].kind == "name" and toks[end].text not in GOES_ON:
+                        self.note(tell("block"))
+                        return self.in_braces(code, toks, end, form.last)
+        return None
 
-    def go_on(self, node, test):
-        """The test of a loop that is also left by a word."""
-        loop, outer = self.loop, self.result
-        if loop["go"]:
-            test = loop["go"] if test in (None, "true") else f"{loop['go']} and " + (f"({test})" if re.search(r"\bor\b", test) else test)
-        if outer is not None and outer["done"] and node.has(lambda it: it.kind == "return"):
-            test = f"not {outer['done']}" + ("" if test in (None, "true") else " and " + (f"({test})" if re.search(r"\bor\b", test) else test))
-        return test or "true"
+    def in_braces(self, code, toks, k, stop):
+        some = read_forms(toks, k, stop)[0]
+        start, end = toks[k].start, toks[some[0].last - 1].end
+        return start, end, "{ " + code[start:end] + " }"
 
-    def enter_loop(self, node):
-        before = self.loop
-        own = lambda it: it.kind == "command" and it.word == "break" or it.kind not in ("while", "for", "do", "switch") and any(own(one) for one in it.children())
-        self.loop = {"go": self.fresh("go", "on") if any(own(one) for one in node.body.some) else None}
-        return before
+    def declared(self, code, toks, form, kind):
+        """A declaration as other languages have it."""
+        k = form.first
+        while toks[k].text in DECLARES and toks[k + 1].kind == "name":
+            k += 1
+        is_said = k > form.first
+        name = type = None
+        if toks[k].kind == "name" and toks[k + 1].text in (":", "=", ";", ":=", ",") and (
+                is_said or toks[k + 1].text == ":" or toks[k + 1].text == ":=" and toks[k].text not in self.names.env):
+            name, k = toks[k], k + 1
+            if toks[k].text == ":":
+                ends = (at for at in range(k, form.last) if toks[at].text in ("=", ";", ",", ":=") and not self.in_angles(toks, k, at))
+                end = next(ends, form.last)
+                type, k = toks[k + 1:end], end
+        elif toks[k].kind == "name" and (toks[k].text not in language().words or toks[k].text in (*START, *CAPS)):
+            for end in type_ends(toks, k, form.last):
+                if toks[end].text in ("=", ";", ",") and end - 1 > k and toks[end - 1].kind == "name" and toks[end - 2].text not in (".", "::") and (
+                        not toks[end - 1].is_fresh and toks[k].text not in ABOUT):
+                    name, type, k = toks[end - 1], toks[k:end - 1], end
+                    break
+        if name is None or toks[k].text == "{":
+            return None
+        is_good = code.startswith("let ", toks[form.first].start) and toks[form.first + 1] is name and type and toks[k].text == "="
+        words = [it.text for it in type or []]
+        if is_good and (words[-1:] and re.fullmatch(r"TYPE\d+__", words[-1]) or words in (["int"], ["bool"]) or (
+                len(words) == 2 and words[0] in CAPS and words[1] in self.names.classes)):
+            return self.split(code, toks, form, k, words) or self.renamed(code, toks, form, name)
+        self.note(tell("let") + (" There is no `let` without a type." if is_said and not type else ""))
+        some = self.types(words) if words and words != ["auto"] else None
+        right = code[toks[k].end:toks[form.last - 1].end] if toks[k].text in ("=", ":=") else None
+        if right is None:
+            self.note("No variable is without a value.")
+            some = some or self.names.all_types()
+            return toks[form.first].start, toks[k].start, f"let {name.text}: {some[0]} = {START.get(some[0], 'nil')}"
+        m = re.match(r"\s*new\s+(?:(iso|tmp)\s+)?(\w+)", right)
+        if m and m[2] in self.names.classes:
+            mine = f"{m[1] or ('tmp' if self.names.classes[m[2]].is_tmp else 'mut')} {m[2]}"
+            some = list(dict.fromkeys([mine, *(some or [])])) if not some or some[0] != f"iso {m[2]}" else [some[0], mine]
+        return toks[form.first].start, toks[k].end, f"let {name.text}: {self.hole(some or None)} ="
 
-    def leave_loop(self, node, before, ahead, test, turn):
-        go, brk = self.loop["go"], self.line_break(node.start)
-        head = brk.join([*ahead, *([f"let {go}: bool = true;"] if go else []), f"while {self.go_on(node, test)}"]) + " "
-        self.loop = before
-        self.replace(node.start, node.head, head if node.body.form == "brace" else head.rstrip())
-        if node.body.form == "brace" and turn and node.body.shuts is not None:
-            place = node.body.shuts.start
-            own = self.code.rfind("\n", 0, place) + 1
-            if not self.code[own:place].strip():
-                self.insert(own, self.indent(node.start) + "  " + turn + "\n")
-            else:
-                self.insert(place, turn + " ")
-        elif turn:
-            self.insert(node.body.some[-1].end if node.body.some else node.body.opens[1], (" " if node.body.form != "indent" else brk + "  ") + turn)
-        self.braces(node.body, self.indent(node.start))
+    def in_angles(self, toks, k, at):
+        return sum(it.text == "<" for it in toks[k:at]) > sum(it.text.count(">") for it in toks[k:at])
 
-    def on_while(self, node):
-        if node.word != "while":
-            self.note(node.start, ABOUT.get(node.word, ABOUT["for"]))
-        before = self.enter_loop(node)
-        if node.bound is not None:
-            self.note(node.start, "A variable is declared in front of a loop, or in its body.")
-            (name, e), type = node.bound, self.type_of(node.bound[1]) or self.choose(self.all_types())
-            said = self.value(e)
-            self.insert(node.body.opens[1], f" let {name}: {type} = {said};")
-            self.env[name] = type
-        test = f"not {said} is nil" if node.bound is not None else self.truth(node.test) if node.test is not None else "true"
-        if node.word == "until":
-            test = f"not ({test})"
-        ahead = self.ahead()
-        turn = joined(re.sub(r"\blet (\w+): [\w ]+ =", r"\1 =", it) for it in ahead)
-        self.block(node.body)
-        self.leave_loop(node, before, ahead, test, turn)
+    def split(self, code, toks, form, k, words):
+        """Two variables in one declaration."""
+        for end in runs(toks, k + 1, form.last, False):
+            if toks[end].text == "," and toks[end + 1].kind == "name":
+                self.note("A declaration has one variable.")
+                type = "" if toks[end + 2].text == ":" else ": " + " ".join(words)
+                one = toks[end + 1]
+                value = "" if toks[end + 2].text in ("=", ":") else f" = {START.get(words[0], 'nil')}"
+                return toks[end].start, one.end, f"; let {one.text}{type}{value}"
+        return None
 
-    def on_do(self, node):
-        self.note(node.start, ABOUT["do"])
-        before, go = self.enter_loop(node), self.fresh("again", "go")
-        self.block(node.body)
-        test = self.truth(node.test) if node.test is not None else "false"
-        turn = joined([*self.ahead(), f"{go} = not ({test});" if node.is_until else f"{go} = {test};"])
-        self.replace(node.body.end, node.end, "")
-        self.leave_loop(node, before, [f"let {go}: bool = true;"], go, turn)
+    def renamed(self, code, toks, form, name):
+        """Another name for a variable with that of a reserved word: up to the end of what is written."""
+        if name.text not in language().words:
+            return None
+        self.note(f"`{name.text}` is a reserved word, and no name.")
+        self.renames[name.text] = self.names.fresh("total", "number", "other")
+        return name.start, name.end, self.renames[name.text]
 
-    def on_for(self, node):
-        brk = self.line_break(node.start)
-        before, env = self.enter_loop(node), dict(self.env)
-        if node.parts is not None:
-            self.note(node.start, ABOUT["for"])
-            first, test, turn = node.parts
-            ahead = []
-            if first is not None:
-                self.stmt(first)
-                ahead.append(self.render(first.start, first.end).replace(brk, " ").rstrip(";") + ";")
-            said = self.truth(test) if test is not None else "true"
-            self.block(node.body)
-            step = ""
-            if turn is not None:
-                self.stmt(turn)
-                step = self.render(turn.start, turn.end).replace(brk, " ")
-            self.leave_loop(node, before, ahead, said, step)
-        else:
-            ahead, said, step, inner = self.along(node)
-            if inner:
-                self.insert(node.body.opens[1] if node.body.form != "one" else node.body.start, (brk + "  " if node.body.form == "brace" else " ") + inner)
-            self.block(node.body)
-            self.leave_loop(node, before, ahead, said, step)
-        self.env = env
+    def assigned(self, code, toks, form, kind):
+        """An assignment to what nothing declares, and a field of one's own without `self`."""
+        it, then = toks[form.first], toks[form.first + 1]
+        is_known = lambda one: one.text in self.names.env or one.text in language().words or re.search(
+            rf"\b((let|as)\s+{one.text}|{one.text}\s*:)(?!\w)", code[:one.start])
+        for k in range(form.first, form.last):
+            one = toks[k]
+            member = self.names.member(self.names.home, one.text) if one.kind == "name" else None
+            is_free = toks[k - 1].text not in (".", "as", "let") and toks[k + 1].text != ":"
+            if member is not None and member.kind == "field" and is_free and not is_known(one):
+                self.note(tell("assigned", one.text))
+                return one.start, one.start, "self."
+        if it.kind == "name" and then.text in ("=", ":=") and not is_known(it) and toks[form.last - 1].text == ";":
+            self.note(tell("assigned2"))
+            return it.start, then.end, f"let {it.text}: {self.hole()} ="
+        return (then.start, then.end, "=") if then.text == ":=" and it.kind == "name" else None
 
-    def along(self, node):
-        """A loop along a range, an array or a list."""
-        name, row = node.name, node.row
-        if row.kind == "paren":
-            row = row.of
-        declare = lambda it: f"{it} = " if it in self.env else f"let {it}: int = "
-        if row.kind == "call" and row.of.kind == "name" and row.of.name in ("range", "xrange") and row.args:
-            args = [it for _, it in row.args]
-            low, high, by = ("0", self.value(args[0], 5), "1") if len(args) == 1 else (self.value(args[0]), self.value(args[1], 5), self.value(args[2]) if len(args) > 2 else "1")
-            row, sign = None, ">" if by.startswith("-") else "<"
-        elif row.kind == "range" and row.high is not None:
-            low, high, by, sign = self.value(row.low), self.value(row.high, 5), "1", row.op
-            row = None
-        if row is None:
-            self.note(node.start, ABOUT["for"])
-            ahead = [*self.ahead(), declare(name) + low + ";"]
-            self.env[name] = "int"
-            return ahead, f"{name} {sign} {high}", f"{name} = {name} - {by.lstrip('-')};" if sign in (">", ">=") else f"{name} = {name} + {by};", ""
-        while row.kind == "call" and row.of.kind == "path" and row.of.name in ("iter", "values", "into_iter", "iter_mut") or row.kind == "unary" and row.op in ("&", "*"):
-            row = row.of.of if row.kind == "call" else row.of
-        said, type = self.value(row, 8), self.type_of(row)
-        home = self.classes.get(type.split()[-1]) if type else None
-        if home is not None and not home.element:
-            links = [one for it in home.some if it.kind == "field" and self.some_type(it.type) and self.some_type(it.type).split()[-1] == home.name for one in it.names]
-            if links:
-                self.note(node.start, f"There is no `for`: along a list goes a variable, `while not n is nil {{ .. n = n.{links[0]}; }}`.")
-                self.env[name] = type
-                return [*self.ahead(), f"let {name}: {type} = {said};"], f"not {name} is nil", f"{name} = {name}.{self.choose(links)};", ""
-        self.note(node.start, ABOUT["foreach"])
-        at = self.fresh("i", "j", "at")
-        of = self.type_of(Node("index", row.start, of=row)) or self.choose(self.all_types())
-        self.env[name] = of
-        return [*self.ahead(), f"let {at}: int = 0;"], f"{at} < size {said}", f"{at} = {at} + 1;", f"let {name}: {of} = {said}[{at}];"
-
-    def on_switch(self, node):
-        self.note(node.start, ABOUT["switch"])
-        of, out, many = self.value(node.of, 5), "", 0
-        if node.of.kind == "paren":
-            of = self.value(node.of.of, 5)
-        brk = self.line_break(node.start)
-        for values, body in node.arms:
-            env = dict(self.env)
-            self.sequence(body.some)
-            inner = self.render(body.some[0].start, body.some[-1].end).strip() if body.some else ""
-            inner = re.sub(r"\bbreak\s*;", "", inner).strip()
-            self.env = env
-            if values is None:
-                out += f" else {{ {inner} }}" if many else inner
+    def shown(self, code, toks, form, kind):
+        m = SHOWN.match(code, toks[form.first].start)
+        if not m or m[1] in self.names.declared:
+            return None
+        k = next(k for k in range(form.first, form.last + 1) if toks[k].start >= m.end())
+        stop = closing(toks, k - 1, form.last) if m[3] == "(" else None
+        if m[0].strip() == "print" or m[0].replace(" ", "") == "print(" and stop and toks[stop].text != ";":
+            k, stop = form.first + 1, None
+        stop = stop - 1 if stop else form.last - (toks[form.last - 1].text == ";")
+        args, at = [], k
+        while at < stop:
+            ends = list(runs(toks, at, stop, False, ("<<",)))
+            if not ends:
                 break
-            test = " or ".join(f"{of} == {self.value(it, 5)}" for it in values)
-            if any(it.kind == "name" and it.name in NILS | {"Some"} for it in values):
-                raise Cannot(node.start, ABOUT["switch"])
-            out += (" else { " if many else "") + f"if {test} {{ {inner} }}"
-            many += 1
-        if not many:
-            raise Cannot(node.start, ABOUT["switch"])
-        self.replace(node.start, node.end, brk.join([*self.ahead(), out + " }" * (many - 1)]))
+            args.append(code[toks[at].start:toks[ends[-1] - 1].end])
+            at = ends[-1] + 1
+        good = [it for it in args if not re.match(r"[fbr]?[\"'`]|(std::)?endl$", it)]
+        if m[0].strip() in ("print", "print(", "print (") and len(args) == 1 == len(good):
+            return None
+        self.note(tell("print") if args else "")
+        if len(good) < len(args):
+            self.note(tell("text"))
+        if not good:
+            raise Cannot(tell("text") if args else tell("shown"))
+        return toks[form.first].start, toks[form.last - 1].end, " ".join(f"print {it};" for it in good)
 
-    def on_enter(self, node):
-        of, type = self.value(node.of, 8), self.type_of(node.of)
-        name = node.name
-        if name is None:
-            name = self.fresh("z", "inner")
-            self.note(node.start, "A window has a name for the bridge of its region: `enter y as z { .. }`.")
-        self.replace(node.start, node.head, f"enter {of} as {name} ")
-        env, self.env = self.env, {one: paused(it) for one, it in self.env.items()}
-        self.env[name] = "mut " + type.split()[-1] if type else None
-        self.block(node.body)
-        self.braces(node.body, self.indent(node.start))
-        self.env = env
+    # -- Calls, and what is made
 
-    # -- Members and what stands at the top
-
-    def on_field(self, node):
-        types = self.types(node.type, node.start) if node.type else []
-        if not types and node.type:
-            raise Cannot(node.start, "")
-        said = []
-        type = self.choose(types or (self.all_types() if node.right is None else [self.type_of(node.right) or "int"]))
-        for name in node.names:
-            if name in language().words:
-                self.note(node.start, f"`{name}` is a reserved word, and no name.")
-                name = self.fresh("total", "number", name + "_")
-            said.append(f"{name}: {type};")
-        if node.right is not None:
-            self.note(node.start, "Fields have no values to start with: they start as 0, `false` and nil. Another value is written behind `new`, or by a method.")
-        elif not re.match(r"\w+\s*:", self.code[node.start:node.end]):
-            self.note(node.start, "A field is its name and its type: `NAME: TYPE;`.")
-        self.replace(node.start, node.end, joined(said))
-
-    def on_method(self, node):
-        home = self.home
-        words = node.words
-        before = [it for it in words if it not in METHODS and it not in VISIBLE and it not in ("void", "None", "Unit", "static")]
-        caps = [it for it in before if it in CAPS] + [CAP_WORDS[it] for it in before if it in CAP_WORDS] + (["paused"] if node.is_const else [])
-        result = node.result or [it for it in before if it not in CAPS and it not in CAP_WORDS and it != "new"]
-        result = [it for it in result if it not in ("void", "None", "Unit", "(", ")", "unit", "->")]
-        name = node.name
-        if not (words[:1] == ["def"] and len(words) == 2 and words[1] in CAPS and node.body is not None and node.body.form == "brace") or node.own:
-            self.note(node.start, "A method is `def`, what it asks of its receiver (`mut` writes, `paused` only reads), its name, and its parameters with their types; `self` isn't one of them.")
-        if name in ("__init__", "constructor", "new", "create") or home is not None and name == home.name:
-            self.note(node.start, "There are no constructors: `new C` makes the object, and a method fills it.")
-            name = self.fresh("init", "set")
-            result = []
-        elif name in language().words:
-            name = self.fresh(name + "_")
-        params = []
-        for one, type in node.params:
-            some = self.types(type, node.start) if type else ["int", "bool"]
+    def own_call(self, code, toks, form, kind):
+        """A call that names no object: of a method of one's own, or of a visible object that has it."""
+        for k in range(form.first, form.last):
+            it = toks[k]
+            is_word = it.is_class or it.text in KEYWORDS | ROWS or it.text in language().words or re.fullmatch(LENGTHS, it.text)
+            if it.kind != "name" or is_word or toks[k + 1].text != "(" or toks[k + 1].is_fresh or k and toks[k - 1].text in (".", "def", "::"):
+                continue
+            has = lambda home: self.names.member(home, it.text) is not None
+            some = ["self"] if has(self.names.home) else [name for name, type in reversed(self.names.env.items()) if has(self.names.class_of(type))]
             if not some:
-                raise Cannot(node.start, "")
-            params.append((one, self.choose(some)))
-        kind = None
-        if result:
-            some = self.types(result, node.start)
-            if "," in result or not some:
-                raise Cannot(node.start, "A method has one result: where there are more, they are fields of an object that it gives back, or of its receiver." if "," in result else "")
-            kind = self.choose(some)
-        if home is not None and home.is_tmp:
-            caps = ["tmp", "paused"]
-        elif not caps:
-            own = "mut" if "mut" in node.own else "paused" if "&" in node.own else None
-            writes = node.body is not None and node.body.has(lambda it: it.kind in ("assign", "swap", "enter") or it.kind == "alone" and it.of.kind in ("step", "call"))
-            caps = list(dict.fromkeys(([own] if own else []) + (["mut", "paused"] if writes else ["paused", "mut"])))
-        cap = self.choose(caps)
-        head = f"def {cap} {name}({', '.join(f'{one}: {type}' for one, type in params)})" + (f": {kind}" if kind else "") + " "
-        env, method = self.env, self.method
-        self.env = {**dict(params), "self": f"{cap} {home.name}" if home is not None else None}
-        self.method = Node("method", node.start, result=kind.split() if kind else [], body=node.body)
-        if node.value is not None:
-            if node.value.kind == "alone" and kind:
-                self.on_return(Node("return", node.value.start, of=node.value.of, end=node.value.end))
-            else:
-                self.stmt(node.value)
-            inner = self.render(node.value.start, node.value.end).rstrip(";")
-            self.replace(node.start, node.end, head + "{ " + inner + "; }")
-        elif node.body is None:
-            self.note(node.start, "A method has a body.")
-            raise Cannot(node.start, "A method has its body behind its head.")
-        else:
-            brace = node.body.form == "brace"
-            self.replace(node.start, node.head, head if brace else head.rstrip())
-            self.returning(node, kind)
-            self.braces(node.body, self.indent(node.start))
-        self.env, self.method = env, method
+                raise Cannot(tell("function", it.text))
+            self.note(tell("own_call", some[0], it.text))
+            start = toks[k - 1].start if k and toks[k - 1].text == "call" else it.start
+            return start, it.end, f"call {some[0]}.{it.text}"
+        return None
 
-    def returning(self, node, kind):
-        """A body with its early returns kept in a variable."""
-        some, early = node.body.some, []
-        def look(it, depth, loops):
-            if it.kind == "return" and not (depth == 0 and some and it is some[-1]):
-                early.append(loops)
-            for one in it.children():
-                look(one, depth + 1, loops or it.kind in ("while", "for", "do"))
-        for it in some:
-            look(it, 0, False)
-        before = self.result
-        if not early:
-            return self.block(node.body)
-        self.note(node.start, "A method has one `return`, in the last place of its body: what is known before is kept in a variable, and a loop ends by its test.")
-        done = self.fresh("done", "is_known") if any(early) or not kind else None
-        self.result = {"name": self.fresh("r", "result") if kind else None, "done": done}
-        self.block(node.body)
-        made = ([f"let {self.result['name']}: {kind} = {START.get(kind, 'nil')};"] if kind else []) + ([f"let {done}: bool = false;"] if done else [])
-        brk = self.line_break(node.start) + "  "
-        self.insert(node.body.opens[1], brk + joined(made))
-        if kind:
-            self.insert(some[-1].end, brk + f"return {self.result['name']};")
-        self.result = before
+    def made(self, code, toks, form, kind):
+        """An object that is made: an array with its size; another one with what its constructor is given, written behind it."""
+        for k in range(form.first, form.last):
+            is_type = toks[min(k + 1, form.last)].is_class or toks[k + 1].text in NUMBERS | TRUTHS | ROWS
+            if toks[k].text != "new" or not is_type or toks[k + 2].text not in ("(", "["):
+                continue
+            named, opens = toks[k + 1].text, k + 2
+            shut = closing(toks, opens, form.last)
+            is_row = not toks[k + 1].is_class or self.names.classes[named].element
+            if shut is None or is_row and toks[k + 1].is_class and toks[opens].text == "[":
+                continue
+            args = arguments(code, toks, opens + 1, shut - 1)
+            if is_row:
+                rows = [named] if toks[k + 1].is_class else [it for it, home in self.names.classes.items() if home.element]
+                if not rows:
+                    raise Cannot(tell("no_row", self.names.fresh("Row"), "int"))
+                self.note(tell("named_row", rows[0]))
+                return toks[k + 1].start, toks[shut - 1].end, f"{rows[0]} [{args[0][1] if args else 0}]"
+            self.note(tell("made"))
+            name = re.sub(r"^let\s+|:.*", "", code[toks[form.first].start:toks[k - 1].start]).strip()
+            return toks[opens].start, toks[shut].end, ";" + self.filled(named, args).replace("$it", name)
+        return None
 
-    def on_class(self, node):
-        before, self.home = self.home, node
-        if node.element is not None or node.opens is None:
-            return
-        other = self.classes.get(node.name)
-        if node.word == "impl" and other is not None and other is not node and other.shuts is not None:
-            self.note(node.start, ABOUT["impl"])
-            self.home = other
-            for it in node.some:
-                self.stmt(it)
-            said = self.render(node.some[0].start, node.some[-1].end) if node.some else ""
-            self.replace(node.start, node.end, "")
-            self.insert(other.shuts.start, said + "\n")
-            self.home = before
-            return
-        if node.word in ("enum", "trait", "interface", "protocol", "impl", "namespace", "mod", "module", "union"):
-            raise Cannot(node.start, ABOUT.get(node.word, ""))
-        if node.word != "class" or node.base:
-            self.note(node.start, ABOUT.get(node.word, "") if node.word != "class" else "A class has a name alone: no inheritance, no interfaces, no generics. A field holds the other object.")
-        self.replace(node.start, node.opens[0], ("tmp " if node.is_tmp else "") + f"class {node.name} ")
-        for it in node.some:
-            if it.kind == "raw":
-                self.replace(it.start, it.end, "")
-            else:
-                self.stmt(it)
-        if node.form != "brace":
-            self.note(node.opens[0], "A block stands in braces: `{ .. }`.")
-            last = node.some[-1].end if node.some else node.opens[1]
-            self.replace(*node.opens, "{") if self.code[node.opens[0]:node.opens[1]] == ":" else self.insert(node.opens[0], "{ ")
-            self.insert(last, "\n}")
-        if node.semi:
-            self.note(node.end, "Behind a class stands no `;`.")
-            self.replace(node.end, self.code.index(";", node.end) + 1, "")
-        self.home = before
+    def filled(self, named, args):
+        """What is written into an object that other languages hand to its constructor."""
+        members = self.names.classes[named].members
+        makers = (it for it in members.values() if it.kind == "method" and it.name.decode() in MAKERS | {named, "set"})
+        maker = next((it for it in makers if len(it.params) == len(args)), None)
+        if maker is not None and args and not args[0][0]:
+            name = maker.name.decode()
+            return f" call $it.{'init' if name in MAKERS | {named} else name}({', '.join(it for _, it in args)});"
+        fields = [it.name.decode() for it in members.values() if it.kind == "field"]
+        pairs = [(name or (fields[k] if k < len(fields) else None), it) for k, (name, it) in enumerate(args)]
+        return "".join(f" $it.{name} = {it};" for name, it in pairs if name and it not in ("0", "false", "nil", *WORDS))
 
-    def on_import(self, node):
-        self.note(node.start, ABOUT.get(node.word, ""))
-        self.replace(node.start, node.end, "")
+    def listed(self, code, toks, form, kind):
+        """An array that is written out."""
+        equals = next((k for k in range(form.first, form.last) if toks[k].text == "="), None)
+        if equals is None or toks[equals + 1].text not in ("[", "vec") or toks[form.last - 1].text != ";":
+            return None
+        rows = [it for it, home in self.names.classes.items() if home.element]
+        opens = equals + 1 + 2 * (toks[equals + 1].text == "vec")
+        shut = closing(toks, opens, form.last)
+        if not rows or not shut:
+            raise Cannot(tell("no_row", self.names.fresh("Row"), "int"))
+        self.note(tell("named_row", rows[0]))
+        name = re.sub(r"^let\s+|:.*", "", code[toks[form.first].start:toks[equals].start]).strip()
+        args = [it for _, it in arguments(code, toks, opens + 1, shut - 1)]
+        m = re.fullmatch(r"\[.*;\s*(.*)\]", code[toks[opens].start:toks[shut - 1].end], re.S)
+        size = m[1] if m else code[toks[shut + 1 - 1].end:toks[form.last - 1].start].lstrip("* ") if toks[shut].text == "*" else str(len(args))
+        tail = "" if m or toks[shut].text == "*" else "".join(f" {name}[{k}] = {it};" for k, it in enumerate(args))
+        return toks[equals + 1].start, toks[form.last - 1].end, f"new {rows[0]} [{size}];{tail}"
 
-    def on_main(self, node):
-        if node.manager is None:
-            self.note(node.start, "`main` has the manager of its region and a block: `main arena { .. }`, `main count { .. }` or `main trace { .. }`.")
-        self.replace(node.start, node.head, f"main {node.manager.text if node.manager else 'arena'} ")
-        self.env, self.home, self.method = {}, None, Node("main", node.start, result=[], body=node.body)
-        self.block(node.body)
-        self.braces(node.body, "")
-
-    def on_top(self, node):
-        """What stands outside of classes: a function, a variable, a statement."""
-        main = next((it for it in self.tree.some if it.kind == "main"), None)
-        if self.code[node.start:node.start + 1] in "}])":
-            raise Cannot(node.start, "")
-        if node.kind == "method" and node.name == "main" and node.body is not None:
-            self.note(node.start, "The program's statements stand in `main arena { .. }`, which is its last part.")
-            return self.on_main(Node("main", node.start, head=node.head, manager=None, body=node.body, result=[]))
-        if node.kind == "method":
-            self.note(node.start, "There are no functions outside of classes: a method stands in a class, and `main` makes an object of it first.")
-            self.on_method(node)
-            self.insert(node.start, f"class {self.fresh('Tools', 'Helpers')} {{ ")
-            return self.insert(node.end, " }")
-        if main is None or main.start < node.start:
-            self.note(node.start, "A program ends with `main`: what is done stands in its block.")
-            raise Cannot(node.start, "A program ends with `main`: what is done stands in its block.")
-        self.note(node.start, "There are no variables and no constants outside of bodies: `main` declares them, and what methods need is a parameter or a field.")
-        it = Node("let", node.start, names=node.names, type=node.type, right=node.right, word="let", end=node.end) if node.kind == "field" else node
-        self.stmt(it)
-        said = self.render(node.start, node.end)
-        self.replace(node.start, node.end, "")
-        self.insert(main.body.opens[1], "\n  " + said)
+    def along(self, code, toks, form, kind):
+        """A loop along an array, or along a list."""
+        got = match(compiled("for $n in $p $b"), toks, form.first, form.last)
+        if got is None:
+            return None
+        n, p, b = (code[toks[a].start:toks[z - 1].end] for name, a, z in got if name)
+        type = self.names.type_of(p)
+        home = self.names.class_of(type)
+        start, end = toks[got[0][1]].start, toks[got[-1][2] - 1].end
+        links = [text(it.name) for it in home.members.values() if it.kind == "field" and it.type and it.type[1] == home.name] if home else []
+        if links:
+            self.note(tell("along", links[0]))
+            return start, end, f"let {n}: {spelt(type)} = {p}; while not {n} is nil " + turned(b, f"{n} = {n}.{links[0]};")
+        self.note(ABOUT["foreach"])
+        at = self.names.fresh("i", "j", "at")
+        return start, end, f"let {at}: int = 0; while {at} < size {p} {{ let {n}: {self.hole()} = {p}[{at}];" + turned(b, f"{at} = {at} + 1;")[1:]
 
 
-def scope(writer, path):
-    """Brings a writer to where a form stands: what is declared in front of it. The path has the forms round it, the outermost
-    first."""
-    for outer, inner in zip(path, path[1:]):
-        if outer.kind == "class":
-            writer.home = outer
-        elif outer.kind == "method":
-            caps = [it for it in outer.words if it in CAPS]
-            writer.env = {one: (writer.some_type(type) or "int") for one, type in outer.params}
-            if writer.home is not None:
-                writer.env["self"] = f"{caps[0] if caps else 'mut'} {writer.home.name}"
-            writer.method = outer
-        elif outer.kind == "main":
-            writer.env, writer.home, writer.method = {}, None, outer
-        elif outer.kind == "block" and inner in outer.some:
-            for it in outer.some[:outer.some.index(inner)]:
-                if it.kind == "let":
-                    type = (writer.some_type(it.type) if it.type else None) or (writer.type_of(it.right) if it.right is not None else None)
-                    writer.env.update(dict.fromkeys(it.names, type))
-        elif outer.kind == "enter" and inner is outer.body:
-            type = writer.type_of(outer.of)
-            writer.env = {one: paused(it) for one, it in writer.env.items()}
-            writer.env[outer.name] = "mut " + type.split()[-1] if type else None
+def arguments(code, toks, k, stop):
+    """The arguments up to a closing bracket, each with its name where it has one."""
+    some = []
+    while k < stop:
+        name = toks[k].text if toks[k].kind == "name" and toks[k + 1].text in (":", "=") else None
+        k += 2 * (name is not None)
+        ends = list(runs(toks, k, stop, False))
+        if not ends:
+            break
+        some.append((name, code[toks[k].start:toks[ends[-1] - 1].end]))
+        k = ends[-1] + 1
+    return some
 
 
-def writings(reader, tree, place, most=40):
-    """Ways to write the forms round a place, the innermost first: (edits, notes), where edits may be None."""
-    path = tree.around(place)
-    kinds = {"let", "assign", "alone", "print", "return", "command", "swap", "if", "while", "do", "for", "switch", "enter", "method", "field", "class", "import", "main", "raw"}
-    for k, node in enumerate(path):
-        if node.kind not in kinds or k + 1 < len(path) and path[k + 1].kind in ("switch", "for") and node.kind != "block":
-            continue
-        if k + 1 < len(path) and not (path[k + 1].kind in ("block", "class", "program")):
-            continue
-        script, tried = [], 0
-        while tried < most:
-            writer = Writer(reader, tree, script)
-            edits = None
-            try:
-                scope(writer, path[k:][::-1])
-                if k + 1 < len(path) and path[k + 1].kind == "program" and node.kind not in ("class", "import", "main"):
-                    writer.home = None
-                    writer.on_top(node)
+def turned(block, turn):
+    """A block that ends with something more."""
+    inner = block[:-1]
+    tail = re.search(r"\n([ \t]*)$", inner)
+    said = inner.rstrip()
+    said += ";" if said[-1] not in ";{}" else ""
+    return said + (f"\n{tail[1]}  {turn}\n{tail[1]}" if tail else f" {turn} ") + "}"
+
+
+# ---- Loops and methods that are left early
+
+
+class Leaving:
+    """Writes a body of which parts are left by a word (`break`, `continue`, `return`) so that it ends at its end: what comes
+    behind such a part stands in an `else`, or in an `if` that asks a variable."""
+
+    def __init__(self, code, toks, words, gone):
+        self.code, self.toks, self.words, self.gone = code, toks, words, gone      # what each word becomes, and what asks
+
+    def leaves(self, form, always=False):
+        word = self.toks[form.first].text
+        if word in self.words:
+            return True
+        if word in ("while", "for") and "return" not in self.words:
+            return False
+        if always and (word != "if" or len(form.blocks) < 2):
+            return False
+        some = [any(self.leaves(it, always) for it in inner) for _, _, inner in form.blocks]
+        return all(some) and bool(some) if always else any(some)
+
+    def text(self, start, end):
+        return self.code[self.toks[start].start:self.toks[end - 1].end] if end > start else ""
+
+    def one(self, form):
+        """A form as it is written."""
+        word = self.toks[form.first].text
+        if word in self.words:
+            return self.words[word](self.text(form.first + 1, form.last).rstrip("; "))
+        out, at = "", self.toks[form.first].start
+        for a, b, inner in form.blocks:
+            if any(self.leaves(it) for it in inner):
+                head = self.code[at:self.toks[a].end]
+                if word == "while" and self.gone:
+                    test = re.fullmatch(r"while\s+(.*?)\s*\{", head, re.S)[1]
+                    head = f"while {self.gone} {{" if test == "true" else f"while {self.gone} and ({test}) {{"
+                out += head + " " + self.many(inner) + " "
+                at = self.toks[b].start
+        return out + self.code[at:self.toks[form.last - 1].end]
+
+    def many(self, some):
+        for k, it in enumerate(some):
+            if not self.leaves(it):
+                continue
+            before, rest = self.text(some[0].first, it.first), some[k + 1:]
+            said = self.one(it)
+            if rest and not self.leaves(it, True):
+                last = it.blocks[-1][2] if len(it.blocks) == 1 and self.toks[it.first].text == "if" else None
+                if last and self.leaves(last[-1], True):
+                    said += f" else {{ {self.many(rest)} }}"
+                elif self.gone:
+                    said += f" if {self.gone} {{ {self.many(rest)} }}"
                 else:
-                    writer.stmt(node)
-                edits = writer.edits
-            except Cannot as why:
-                writer.note(why.place, why.why)
-            except (RecursionError, StopIteration, ValueError):
-                pass
-            tried += 1
-            yield node, edits, writer.notes
-            # the next choice: the last one that may be another
-            taken = [(script[i] if i < len(script) else 0) for i in range(len(writer.counts))]
-            while taken and taken[-1] + 1 >= writer.counts[len(taken) - 1]:
-                taken.pop()
-            if not taken:
-                break
-            taken[-1] += 1
-            script = taken
+                    raise Cannot("")
+            return f"{before} {said}"
+        return self.text(some[0].first, some[-1].last) if some else ""
+
+
+def left_loop(self, code, toks, form, kind):
+    """A loop with `break` or `continue`."""
+    if toks[form.first].text != "while" or len(form.blocks) != 1 or re.search(r"\belse\s+if\b", code[toks[form.first].start:toks[form.last - 1].end]):
+        return None
+    a, b, inner = form.blocks[0]
+    probe = Leaving(code, toks, {"break": None, "continue": None}, None)
+    if not any(probe.leaves(it) for it in inner):
+        return None
+    has_break = any(it.text == "break" for it in toks[a:b])
+    go = self.names.fresh("go", "on") if has_break else None
+    self.note(ABOUT["break" if has_break else "continue"])
+    said = Leaving(code, toks, {"break": lambda _: f"{go} = false;", "continue": lambda _: ""}, go).many(inner)
+    test = code[toks[form.first].end:toks[a].start].strip()
+    test = test if not go else go if test == "true" else f"{go} and ({test})" if re.search(r"\bor\b", test) else f"{go} and {test}"
+    return toks[form.first].start, toks[b].end, (f"let {go}: bool = true; " if go else "") + f"while {test} {{ {said} }}"
+
+
+def left_method(self, code, toks, form, kind):
+    """A method with a `return` that isn't its last statement."""
+    if len(form.blocks) != 1 or toks[form.first].text != "def" or re.search(r"\belse\s+if\b", code[toks[form.first].start:toks[form.last - 1].end]):
+        return None
+    a, b, some = form.blocks[0]
+    probe = Leaving(code, toks, {"return": None}, None)
+    early = [it for it in some if probe.leaves(it) and (it is not some[-1] or toks[it.first].text != "return")]
+    m = re.search(r"\)\s*:\s*([\w ]+?)\s*$", code[toks[form.first].start:toks[a].start])
+    if not early or m is None:
+        return None
+    self.note(tell("returns"))
+    r = self.names.fresh("r", "result")
+    in_loop = any(it.text == "while" for one in early for it in toks[one.first:one.last])
+    done = self.names.fresh("done", "is_known") if in_loop else None
+    gone = f"not {done}" if done else None
+    give = lambda of: f"{r} = {of};" + (f" {done} = true;" if done else "")
+    said = Leaving(code, toks, {"return": give}, gone).many(some)
+    start = f"let {r}: {m[1]} = {START.get(m[1], 'nil')};" + (f" let {done}: bool = false;" if done else "")
+    return toks[a].start, toks[b].end, f"{{ {start} {said} return {r}; }}"
+
+
+def given_back(self, code, toks, form, kind):
+    """The last expression of a method with a result, which other languages give back without a word."""
+    if len(form.blocks) != 1 or toks[form.first].text != "def" or not form.blocks[0][2]:
+        return None
+    a, b, some = form.blocks[0]
+    last, it = some[-1], toks[some[-1].first]
+    has_result = re.search(r"\)\s*:\s*\w[\w ]*$", code[toks[form.first].start:toks[a].start].rstrip())
+    if not has_result or last.blocks or it.text in NO_OPERAND - {"not"}:
+        return None
+    ends = list(runs(toks, last.first, last.last, False, ("=", ":=", "+=", "-=")))
+    if not ends or ends[-1] != last.last - (toks[last.last - 1].text == ";"):
+        return None
+    self.note(tell("given_back"))
+    return it.start, it.start, "return "
+
+
+# ---- Members, and what stands at the top
+
+
+GOOD_TYPE = r"(int|bool|TYPE\d+__|(mut|tmp|paused|imm|iso) \w+)"
+GOOD_HEAD = re.compile(rf"def (mut|tmp|paused|imm|iso|TYPE\d+__) \w+ \( ((\w+ : {GOOD_TYPE} , )*\w+ : {GOOD_TYPE} )?\)( : {GOOD_TYPE})?")
+
+
+def field(self, code, toks, form, kind):
+    some = toks[form.first:form.last]
+    texts = [it.text for it in some]
+    if form.blocks or "(" in texts or texts[0] in ("def", "}"):
+        return None
+    stop = len(some) - (texts[-1] in (";", ","))
+    by_colon = texts[1:2] == [":"]
+    name, type = (some[0], texts[2:stop]) if by_colon else (some[stop - 1], texts[:stop - 1])
+    if name.kind != "name" or "=" in texts:
+        return None
+    if name.text in language().words:
+        self.note(f"`{name.text}` is a reserved word, and no name.")
+        return name.start, name.end, self.names.fresh("total", "number", name.text + "_")
+    self.note("" if by_colon else tell("field"))
+    is_done = type[:1] and re.fullmatch(r"TYPE\d+__", type[0])
+    types = type[:1] if is_done else self.types(type)
+    if not types and type:
+        raise Cannot("")
+    return some[0].start, some[-1].end, f"{name.text}: {types[0] if is_done else self.hole(types or None)};"
+
+
+def method(self, code, toks, form, kind):
+    """The head of a method."""
+    first = form.first
+    opens = next((k for k in range(first, form.last) if toks[k].text == "("), None)
+    head = [it.text for it in toks[first:opens]] if opens else []
+    if not head or toks[opens - 1].kind != "name" or toks[first].text in ("}", ";") or "=" in head:
+        return None
+    shut = closing(toks, opens, form.last)
+    if shut is None:
+        return None
+    stop = form.blocks[0][0] if form.blocks else next((k for k in range(shut, form.last) if toks[k].text in ("=>", "=", ";", "{")), form.last)
+    name, words, result = head[-1], head[:-1], [it.text for it in toks[shut:stop] if it.text not in (":", "->", "const", "noexcept", "override")]
+    said = " ".join(it.text for it in toks[first:stop])
+    if form.blocks and name not in language().words and GOOD_HEAD.fullmatch(said):
+        return None
+    self.note(tell("method"))
+    before = [it for it in words if it not in METHODS and it not in VISIBLE and it not in NO_TYPE]
+    caps = [CAP_WORDS.get(it, it) for it in before if it in CAPS or it in CAP_WORDS]
+    result = [it for it in result or [it for it in before if it not in CAPS and it not in CAP_WORDS] if it not in NO_TYPE and it not in ("(", ")")]
+    if name in MAKERS or self.names.home is not None and name == self.names.home.name.decode():
+        self.note(tell("constructor"))
+        name, result = self.names.fresh("init", "set"), []
+    elif name in language().words:
+        name = self.names.fresh(name + "_")
+    own, params = parameters(self, toks, opens + 1, shut - 1)
+    if "," in result:
+        raise Cannot(tell("method2"))
+    types = self.types(result) if result else []
+    if result and not types:
+        raise Cannot("")
+    home = self.names.home
+    choice = ["tmp", "paused"] if home is not None and home.is_tmp else caps or ["paused", "mut"][:1 if "&" in own and "mut" not in own else 2]
+    put = f"def {self.hole(list(dict.fromkeys(choice)))} {name}({', '.join(params)})" + (f": {self.hole(types)}" if types else "")
+    if not form.blocks and toks[stop].text in ("=>", "="):
+        value = code[toks[stop].end:toks[form.last - 1].end].strip().rstrip(";")
+        return toks[first].start, toks[form.last - 1].end, f"{put} {{ {'return ' if types else ''}{value}; }}"
+    if not form.blocks:
+        raise Cannot("A method has its body behind its head.")
+    return toks[first].start, toks[stop].start, put + " "
+
+
+def parameters(self, toks, k, stop):
+    """What is written of the receiver, and the parameters."""
+    own, params = [], []
+    while k < stop:
+        ends = [at for at in range(k, stop) if toks[at].text == "," and not self.in_angles(toks, k, at)]
+        end = ends[0] if ends else stop
+        some = [it.text for it in toks[k:end]]
+        k = end + 1
+        if "self" in some or "this" in some:
+            own = some
+            continue
+        some = some[:some.index("=")] if "=" in some else some
+        name, type = (some[some.index(":") - 1], some[some.index(":") + 1:]) if ":" in some else (some[-1], some[:-1])
+        if ":" not in some and len(some) > 1 and (name in START or name in NUMBERS | TRUTHS or name in self.names.classes):
+            name, type = some[0], some[1:]
+        types = type if type[:1] and re.fullmatch(r"TYPE\d+__", type[0]) else self.types(type) if type else ["int", "bool"]
+        if not types:
+            raise Cannot("")
+        params.append(f"{name}: {self.hole(types)}")
+    return own, params
+
+
+def element_type(self, code, toks, form, kind):
+    """The type of an array's elements."""
+    opens = form.first + 2 + (toks[form.first].text == "tmp")
+    shut = closing(toks, opens, form.last) if toks[opens - 2].text == "class" and toks[opens].text == "[" else None
+    words = [it.text for it in toks[opens + 1:shut - 1]] if shut else []
+    if not words or re.fullmatch(r"int|bool|TYPE\d+__", " ".join(words)) or len(words) == 2 and words[0] in CAPS:
+        return None
+    self.note(tell("element_type"))
+    return toks[opens + 1].start, toks[shut - 2].end, self.hole(self.types(words))
+
+
+def at_top(self, code, toks, form, kind):
+    """What stands outside of classes."""
+    first, word = toks[form.first], toks[form.first].text
+    head = [it.text for it in toks[form.first:form.blocks[0][0]]] if form.blocks else []
+    if word in ("import", "use", "include", "from", "package", "using"):
+        self.note(ABOUT.get(word, ""))
+        end = next((k for k in range(form.first + 1, len(toks)) if toks[k].is_fresh or toks[k - 1].text == ";"), len(toks) - 1)
+        return first.start, toks[end - 1].end, ""
+    if "main" in head and not (len(head) == 2 and head[1] in MANAGERS):
+        self.note(tell("at_top"))
+        return first.start, toks[form.blocks[0][0]].start, f"main {next((it for it in head if it in MANAGERS), 'arena')} "
+    if "(" in head and word not in ("main", "class"):
+        self.note(tell("at_top2"))
+        return first.start, toks[form.last - 1].end, f"class {self.names.fresh('Tools', 'Helpers')} {{ {code[first.start:toks[form.last - 1].end]} }}"
+    if not form.blocks and first.kind == "name" and word not in ("class", "tmp"):
+        raise Cannot(tell("at_top3"))
+    return None
+
+
+def semicolon(self, code, toks, form, kind):
+    last = toks[form.last - 1]
+    if last.text in (";", "}", ",", "{", ":") or toks[form.first].text in ("if", "while", "for", "else", "enter", "}", "def"):
+        return None
+    self.note("A statement ends with `;`.")
+    return last.end, last.end, ";"
+
+
+ROW = re.compile(r"(?m)^([SEPLMT]|\d\d)  (.*?)(?:  =>  (.*?))?  ##(?:  )?(.*)$")
+READ = [(m[1], compiled(m[2]), m[3], m[4]) for m in ROW.finditer(ROWS_READ)]
+SURE, TOLD_ONLY = ([it for it in READ if (it[2] is None) == is_told] for is_told in (False, True))
+SIMPLE = [Writer.words, Writer.numbers]
+ACTS = {"statement": [*SIMPLE, semicolon, Writer.shown, Writer.by_table, Writer.braces, Writer.along, Writer.listed, Writer.declared, Writer.assigned,
+                      Writer.own_call, Writer.made, left_loop],
+        "member": [Writer.by_table, field, method, left_method, given_back], "top": [Writer.by_table, element_type, at_top]}
+
+
+# ---- Blocks without braces
+
+
+def braced(code):
+    """A source whose blocks go by their indentation, or end with a word, in braces; None where none does."""
+    toks, edits, heads = cut(code), [], []
+    for k, it in enumerate(toks[:-1]):
+        while heads and it.is_fresh and heads[-1][1] is not None and it.indent <= heads[-1][1] and it.text != "{":
+            heads.pop()
+            edits.append((toks[k - 1].end, toks[k - 1].end, "\n" + " " * (it.indent if it.indent > 0 else 0) + "}"))
+        then = toks[k + 1]
+        line = next(toks[at] for at in range(k, -1, -1) if toks[at].is_fresh)
+        if it.text in ("then", "do") and k and then.text != "{" and line.text not in ("do", "repeat"):
+            edits.append((it.start, it.end, "{"))
+            heads.append((k, None))
+        elif it.text in ("end", "fi", "done") and heads and heads[-1][1] is None and then.text not in ("=", "."):
+            heads.pop()
+            edits.append((it.start, it.end, "}"))
+        elif it.text == ":" and then.is_fresh and then.indent > line.indent and then.text != "{":
+            edits.append((toks[k - 1].end, it.end, " {"))
+            heads.append((k, line.indent))
+    for _, indent in heads:
+        edits.append((len(code.rstrip()), len(code.rstrip()), "\n}"))
+    if not edits:
+        return None
+    for start, end, put in sorted(edits, reverse=True):
+        code = code[:start] + put + code[end:]
+    return code
+
+
+# ---- The whole
+
+
+def resolved(writer, code, most):
+    """The ways to fill the holes for types, the likeliest first."""
+    names, known = writer.names, {}
+    choices = []
+    for k, some in enumerate(writer.choices):
+        m = re.search(rf"\blet (\w+): TYPE{k}__ = (.*?);", code, re.S)
+        env = {it[1]: known.get(it[2]) or read(it[2]) for it in re.finditer(r"\blet (\w+): (TYPE\d+__|\w+ ?\w*?) =", code[:m.start() if m else 0])}
+        type = names.type_of(m[2], env.items()) if m else None
+        guess = spelt(type)
+        if guess and some is None:
+            known[f"TYPE{k}__"] = type
+            some = [guess]
+        choices.append(some if some else names.all_types())
+    for some in itertools.islice(itertools.product(*choices), most):
+        yield re.sub(r"TYPE(\d+)__", lambda m: some[int(m[1])], code)
+
+
+def read(said):
+    cap, *name = said.encode().split()
+    return cap, name[0] if name else None
+
+
+def writings(code, outline, place, most=40):
+    """Ways to write the forms round a place, the innermost first: (start, end, what is put there or None, sentences)."""
+    toks = cut(code)
+    path = around(toks, read_all(toks), place)
+    for form, kind in path:
+        start, end = toks[form.first].start, toks[form.last - 1].end
+        if end - start > LONGEST:
+            continue
+        writer = Writer(Names(outline, start))
+        try:
+            said = writer.write(code[start:end], kind)
+        except (Cannot, RecursionError) as why:
+            writer.note(str(why))
+            yield start, end, None, writer.notes
+            continue
+        if said == code[start:end]:
+            continue
+        for name, other in writer.renames.items():      # up to the end of the block
+            stop = max((toks[b].start for outer, _ in path for a, b, inner in outer.blocks if form in inner), default=end)
+            said += re.sub(rf"(?<![\w.]){name}\b", other, code[end:stop])
+            end = stop
+        for put in resolved(writer, said, most):
+            yield start, end, put, writer.notes
+    whole = braced(code) if len(code) < LONGEST else None
+    if whole is not None:
+        toks = cut(whole)
+        writer, out, at = Writer(Names(outline, place)), "", 0
+        writer.note(tell("block"))
+        try:
+            for form in read_all(toks):
+                start, end = toks[form.first].start, toks[form.last - 1].end
+                head = whole[start:end].partition("{")[0]
+                writer.names.home = next((it for name, it in writer.names.classes.items() if re.search(rf"\b{name}\b", head)), None)
+                out += whole[at:start] + writer.write(whole[start:end], "top")
+                at = end
+        except (Cannot, RecursionError) as why:
+            writer.note(str(why))
+            yield 0, len(code), None, writer.notes
+            return
+        for put in resolved(writer, out + whole[at:], most):
+            yield 0, len(code), put, writer.notes
