@@ -345,7 +345,7 @@ class Call:
             if which == refusal or (m[3] == "↔" and {which, refusal} == {"true", "false"}):
                 return m[3] == "↔" or speaks_of_cause(m[4]), frozenset() if "Rose" in m[4] else change
             return False, frozenset()
-        if re.match(r"result ≢ (\w+\.)?(\w+) →", body):
+        if re.match(r"result ≢ (Err )?(\w+\.)?(\w+) →", body):
             return False, frozenset() if body.split(" →")[0].endswith(refusal) else change
         if m := re.match(r"(OnTrue|OnFalse) \((\w+) result\) ", body):
             return False, change if refusal in self.passing(m[2], m[1][2:].lower()) else frozenset()

@@ -4,10 +4,12 @@
 # a module of specs/Inner, and fails then. A function is handed out where its crate's lib.rt names it, or its type, in
 # a `pub use`. Proofs, private functions, views and invariants may cite Inner.
 # Then it compares the modules that hold a definition to which names lead from the clauses of `reggio` with the tables under
-# "Where the definitions stand" in docs/architecture.md, in two groups: what is believed of the text, and what of
-# collections too, to which only the states of a run lead. It fails where a table or a group has more than the other, and
-# prints the modules and lines of each group. A module that is imported on the way and holds no such definition stands in
-# neither: it prints its name, since it would be better if a reader didn't come by it. Not a part of the gate.
+# "Where the definitions stand" in docs/architecture.md, in three groups: what is believed of the text and the status; what of
+# modules and behaviours too, to which only crates of theirs lead; and what of collections and pacers, to which only the states
+# of a run lead. It fails where a table or a group has more than the other. It prints the modules and lines of each group, and
+# what share of the code's lines they are: all of them, and those of definitions that are used. Blank lines and imports count on
+# neither side. A module that is imported on the way and holds no such definition stands in no table: it prints its name, since
+# it would be better if a reader didn't come by it. Not a part of the gate.
 # Usage: bench/inner.sh
 cd "$(dirname "$0")/.." && exec python3 - <<'PY'
 import glob, os, re, sys
@@ -65,9 +67,13 @@ inner = [(at, way) for at, way in followed(ways).items() if at[1].startswith("In
 for at, way in inner: print(" -> ".join([*way, ".".join(at)]))
 print(f"{len(ways)} modules are reached, {len(inner)} of them are of specs/Inner")
 
-# What is believed of the text, and what of collections too: the second group is what the states of a run alone lead to.
+# What the states of a run alone lead to is believed of collections and pacers; and what these crates alone lead to, of modules
+# and behaviours.
 STATES = ("rg_run", "States")
-TABLES = ["to believe the text", "to believe what is told of collections"]
+FURTHER = {"rg_module", "rg_spell", "rg_raised", "rg_limits", "rg_build", "rg_alike", "rg_when", "rg_sched", "rg_sched_atomic",
+    "rg_plan", "rg_cown", "rg_opening", "rg_world_text", "rg_loading", "rg_image", "rg_typed", "rg_names", "rg_verify_expressions"}
+TABLES = ["to believe the text and the status", "to believe what is told of modules and behaviours",
+    "to believe what is told of collections and pacers"]
 
 def stands(ways): return {at for at in ways if os.path.isfile(file_of(*at))}
 
@@ -82,10 +88,10 @@ def items(at):
         body = "\n".join(lines)
         names = re.findall(r"(?m)^ *(?:unfoldable |abbrev |pub |record |data )*([^\s(){}:]+)(?= [({]| :)", body)
         bound = " ".join(re.findall(r"λ ([^.]*)\.", body))
-        if names: yield {*names}, {*re.findall(WORD, body)} - {*re.findall(WORD, bound)}
+        if names: yield {*names}, {*re.findall(WORD, body)} - {*re.findall(WORD, bound)}, len(lines)
 
 def used(but=()):
-    """All modules with a definition to which names lead from the clauses, but not through these modules."""
+    """All definitions to which names lead from the clauses, but not through these modules: each a module and its place there."""
     defined, names, wholes = {}, {}, {}
     for at in imported:
         defined[at] = list(items(at))
@@ -95,17 +101,28 @@ def used(but=()):
     todo = [(at, name) for at, given in first.items() for name in given if at in defined and at not in but]
     while todo:
         at, name = todo.pop()
-        for k, (gives, tokens) in enumerate(defined[at]):
+        for k, (gives, tokens, _) in enumerate(defined[at]):
             if name not in gives or (at, k) in seen: continue
             seen.add((at, k))
             for token in tokens:
                 todo.append((at, token))
                 more = [*names[at].get(token, ()), *((module, token) for module in wholes[at])]
                 todo += [(module, name) for module, name in more if module in defined and module not in but]
-    return {at for at, _ in seen}
+    return seen
 
-believed, text = used(), used(but=(STATES,))
-groups = [text, believed - text]
+def modules(seen): return {at for at, _ in seen}
+
+def lines_of(paths):
+    """How many lines of these files say something: no blank lines, and no imports."""
+    said = 0
+    for path in paths:
+        said += sum(bool(line.strip()) and not re.match(r" *(ghost |pub )*use ", line) for line in read(path).splitlines())
+    return said
+
+all_used, without_states = used(), used(but=(STATES,))
+further = {at for at in imported if at[0] in FURTHER}
+believed, text = modules(all_used), modules(used(but={STATES, *further}))
+groups = [text, modules(without_states) - text, believed - modules(without_states)]
 for at in sorted(imported - believed): print(".".join(at), "is imported, and holds nothing that is used: it needn't be believed")
 
 wrong = False
@@ -118,8 +135,13 @@ for heading, group in zip(TABLES, groups):
             named.add((last, module.replace("/", ".")))
     for at in sorted(group ^ named):
         print(".".join(at), f"isn't in the table {heading!r}" if at in group else f"is in the table {heading!r}, and no clause of reggio leads to it")
-    lines = sum(len(read(file_of(*at)).splitlines()) for at in group)
-    print(f"{heading}: {len(group)} modules, {lines} lines; {len(named)} stand in the table")
+    print(f"{heading}: {len(group)} modules, {lines_of(file_of(*at) for at in group)} lines; {len(named)} stand in the table")
     wrong |= group != named
+
+# The code of the library and its programs, without what tests it; definitions that are used are counted without their comments.
+code = lines_of(path for path in glob.glob("crates/*/src/**/*.rt", recursive=True) if not re.search(r"_tests|_examples", path))
+needed = sum(lines[k] for at in believed for lines in [[size for _, _, size in items(at)]] for there, k in all_used if there == at)
+share = lines_of(file_of(*at) for at in believed) / code
+print(f"{code} lines of code; what is believed is {share:.3f} of them, and what is used of it {needed / code:.3f}")
 sys.exit(bool(inner) or wrong)
 PY
